@@ -1,0 +1,99 @@
+-- From what the divider's loops have read to what stands at the front: the packet that they found, taken off the page.
+use mathlib.Core.Path.{_≡_, refl, sym, ap, _∙_}
+use mathlib.Core.List.{List, [], _∷_, _++_, map}
+use mathlib.Core.Bool.{Bool, true, false}
+use Prim.Native.Nat.{ℕ, zero, suc, _+_, _-_, _≤_, _<_}
+use native.Mathlib.Omega.{arith}
+use native.Mathlib.Numerals.{add-one}
+use lib.ListN.{length, take, drop, getD}
+use lib.Seq.{getD-take}
+use Rattle.words.specs.Word.{splice}
+use Rattle.ring.specs.Ring.{slotAt, slotsFrom}
+use Rattle.ring.proofs.Ring.{slots-take, slots-drop, slots-length}
+use Rattle.netif.specs.Slot.{Slot, size, moreData, extraFollows}
+use Rattle.netif.specs.Decode.{dataOf}
+use Rattle.netif.specs.Divide.{Cut, whole, beginning, misshapen, scan, divide}
+use Rattle.netif.specs.Packet.{firstOf, laterOf, sizes, gsoSizeOf, gsoTypeOf}
+use Rattle.netif.specs.Front.{outlineOf, frontOf, FrontRead, behind}
+use Rattle.netif.specs.declared.DataSlot.{DataSlot}
+use Rattle.netif.specs.declared.divider.Outline.{Outline}
+use Rattle.netif.specs.declared.divider.Front.{Front}
+use Rattle.netif.specs.declared.divider.Front.the-variants as front
+
+-- ---- no whole packet
+
+module _ (l : List Slot) (before after : List ℕ) where
+  pub read-beginning : divide l ≡ beginning → FrontRead l before after front.Beginning
+  unfolding frontOf
+  read-beginning h = record { answer = rw h; table = λ d e k. absurd (let z : _≡_ {A = ℕ} 0 1 = cc in omega arith) }
+
+  pub read-misshapen : divide l ≡ misshapen → FrontRead l before after front.Misshapen
+  unfolding frontOf
+  read-misshapen h = record { answer = rw h; table = λ d e k. absurd (let z : _≡_ {A = ℕ} 0 1 = cc in omega arith) }
+
+-- ---- the gso fields of the slots in front
+
+gso-size-front : (e n : ℕ) (l : List Slot) → e < n → gsoSizeOf e (take n l) ≡ gsoSizeOf e l
+gso-size-front zero n l h = refl
+gso-size-front (suc e) n l h = rw (getD-take n l (suc e) [] h)
+
+gso-type-front : (e n : ℕ) (l : List Slot) → e < n → gsoTypeOf e (take n l) ≡ gsoTypeOf e l
+gso-type-front zero n l h = refl
+gso-type-front (suc e) n l h = rw (getD-take n l (suc e) [] h)
+
+module _ (page : List ℕ) (first posted : ℕ) where
+  posted-slots : List Slot
+  posted-slots = slotsFrom 12 256 page first posted
+
+  -- the first slot, and what the scan goes on from
+  pub first-read : (x m : Bool) → 1 ≤ posted → x ≡ extraFollows (slotAt 12 256 page first) → m ≡ moreData (slotAt 12 256 page first)
+      → divide (slotsFrom 12 256 page first posted) ≡ scan (behind page first posted 1) 1 0 x m
+  unfolding divide
+  first-read x m h p q =
+      let z : posted ≡ suc (posted - 1) = omega arith in
+      ap (λ (k : ℕ). divide (slotsFrom 12 256 page first k)) z ∙ rw (p, q, add-one first)
+
+  -- ---- a packet of k later data slots and e extras
+
+  module _ (k e : ℕ) (few : k + 1 + e ≤ posted) where
+    packet-here : take (k + 1 + e) (slotsFrom 12 256 page first posted) ≡ slotsFrom 12 256 page first (k + 1 + e)
+    packet-here =
+        let z : k + 1 + e + (posted - (k + 1 + e)) ≡ posted = omega arith in
+        rw z at (slots-take 12 256 page (k + 1 + e) (posted - (k + 1 + e)) first)
+
+    later-here : laterOf e (take (k + 1 + e) (slotsFrom 12 256 page first posted)) ≡ slotsFrom 12 256 page (first + (e + 1)) k
+    later-here =
+        let z : suc e + k ≡ k + 1 + e = omega arith in
+        let y : first + suc e ≡ first + (e + 1) = omega arith in
+        ap (laterOf e) packet-here ∙ rw (z, y) at (slots-drop 12 256 page (suc e) k first)
+
+    first-here : firstOf (take (k + 1 + e) (slotsFrom 12 256 page first posted)) ≡ slotAt 12 256 page first
+    first-here =
+        let z : k + 1 + e ≡ suc (k + e) = omega arith in
+        ap firstOf packet-here ∙ rw z
+
+    outline-here : (h : DataSlot) (sum z t : ℕ) → h ≡ dataOf (slotAt 12 256 page first) → sum ≡ sizes (slotsFrom 12 256 page (first + (e + 1)) k)
+        → z ≡ gsoSizeOf e (slotsFrom 12 256 page first posted) → t ≡ gsoTypeOf e (slotsFrom 12 256 page first posted)
+        → record { head = h; slots = k + 1 + e; extras = e; later = sum; «gso_size» = z; «gso_type» = t } ≡ outlineOf e (take (k + 1 + e) (slotsFrom 12 256 page first posted))
+    unfolding outlineOf
+    outline-here h sum z t p q r s =
+        let a : h ≡ dataOf (firstOf (take (k + 1 + e) (slotsFrom 12 256 page first posted))) = p ∙ ap dataOf (sym first-here) in
+        let b : k + 1 + e ≡ length (take (k + 1 + e) (slotsFrom 12 256 page first posted)) = sym (ap length packet-here ∙ slots-length 12 256 page (k + 1 + e) first) in
+        let c : sum ≡ sizes (laterOf e (take (k + 1 + e) (slotsFrom 12 256 page first posted))) = q ∙ ap sizes (sym later-here) in
+        let d : z ≡ gsoSizeOf e (take (k + 1 + e) (slotsFrom 12 256 page first posted)) = r ∙ sym (gso-size-front e (k + 1 + e) _ (omega arith)) in
+        let f : t ≡ gsoTypeOf e (take (k + 1 + e) (slotsFrom 12 256 page first posted)) = s ∙ sym (gso-type-front e (k + 1 + e) _ (omega arith)) in
+        λ i. record { head = a i; slots = b i; extras = e; later = c i; «gso_size» = d i; «gso_type» = f i }
+
+    pub read-whole : (h : DataSlot) (sum z t : ℕ) (before after : List ℕ) → divide (slotsFrom 12 256 page first posted) ≡ whole (k + 1) e
+        → h ≡ dataOf (slotAt 12 256 page first) → sum ≡ sizes (slotsFrom 12 256 page (first + (e + 1)) k)
+        → z ≡ gsoSizeOf e (slotsFrom 12 256 page first posted) → t ≡ gsoTypeOf e (slotsFrom 12 256 page first posted)
+        → after ≡ splice before 1 (map size (slotsFrom 12 256 page (first + (e + 1)) k))
+        → FrontRead (slotsFrom 12 256 page first posted) before after (front.Whole (record { head = h; slots = k + 1 + e; extras = e; later = sum; «gso_size» = z; «gso_type» = t }))
+    unfolding frontOf
+    read-whole h sum z t before after w p q r s u = record {
+      answer = ap front.Whole (outline-here h sum z t p q r s) ∙ sym (rw w);
+      table = λ d f v.
+          let a : d ≡ k + 1 = cc in
+          let b : f ≡ e = cc in
+          rw (a, b) (u ∙ ap (λ (l : List Slot). splice before 1 (map size l)) (sym later-here));
+    }

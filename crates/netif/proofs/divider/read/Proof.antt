@@ -1,0 +1,115 @@
+-- `divider::read` meets its contract: the scan starts behind the first slot, goes on behind the extras, and ends where a stage ends it.
+use mathlib.Core.Path.{_≡_, refl, sym, ap, _∙_}
+use mathlib.Core.Bool.{Bool, true, false}
+use Prim.Native.Nat.{_+_}
+use native.Mathlib.Omega.{arith}
+use Rattle.ring.specs.Ring.{slotAt, slotsFrom}
+use Rattle.netif.specs.Divide.{Cut, whole, scan}
+use Rattle.netif.specs.Front.{goingOn, behind}
+use borrow.Author.Needs.{needs}
+use Rattle.netif.proofs.Loop.{more-bit, follows-bit}
+use Rattle.netif.proofs.Reading.{read-beginning, read-misshapen, first-read}
+use Rattle.netif.proofs.divider.read.Statement.{statement}
+use Rattle.netif.proofs.divider.read.Tie as tie
+use Rattle.netif.proofs.divider.read.Reads as reads
+use Rattle.netif.proofs.divider.read.Lts as lts
+use Rattle.netif.proofs.DataSlot.at.Reads as at-reads
+use Rattle.netif.proofs.DataSlot.extra_follows.Reads as extra-follows-reads
+use Rattle.netif.proofs.DataSlot.more_data.Reads as more-data-reads
+use Rattle.netif.proofs.divider.read_extras.Reads as read-extras-reads
+use Rattle.netif.proofs.divider.read_rest.Reads as read-rest-reads
+
+-- src/divider.rt:154:9
+at-requires : tie.Need-at-requires
+at-requires c κs = search needs
+
+-- src/divider.rt:155:9
+more-data-requires : tie.Need-more-data-requires
+more-data-requires c κs = search needs
+
+-- src/divider.rt:156:51
+extra-follows-requires : tie.Need-extra-follows-requires
+extra-follows-requires c κs = search needs
+
+-- src/divider.rt:156:9
+read-extras-requires : tie.Need-read-extras-requires
+read-extras-requires c κs = search needs
+
+-- src/divider.rt:159:29
+enum-told : tie.Need-enum-told
+enum-told c = search needs
+
+-- src/divider.rt:160:29
+enum-told-2 : tie.Need-enum-told-2
+enum-told-2 c = search needs
+
+-- src/divider.rt:161:76
+enum-told-3 : tie.Need-enum-told-3
+enum-told-3 c = search needs
+
+-- src/divider.rt:161:25
+read-rest-requires : tie.Need-read-rest-requires
+read-rest-requires c κs =
+    let a = c .before .before .before .before .before .before .before .before .args in
+    let h = c .before .before .before .before .before .before .at in
+    let x = c .before .before .before .before .extra-follows in
+    let m = c .before .before .before .before .before .more-data in
+    let e = c .before .before .before .read-extras in
+    let rest = scan (behind (a .page .now) (a .first) (a .posted) (e .result .count + 1)) 1 (e .result .count) false (m .result) in
+    let start = first-read (a .page .now) (a .first) (a .posted) (x .result) (m .result) (c .before .before .before .before .before .before .before .before .pre .1) (x .ensures ∙ follows-bit _ (h .result) (h .ensures)) (m .ensures ∙ more-bit _ (h .result) (h .ensures)) in (
+      search needs,
+      search needs,
+      c .before .before .before .before .before .before .before .before .pre .3,
+      record {
+        isFirst = h .ensures;
+        few = e .ensures .few;
+        limit = e .ensures .limit;
+        rest = start ∙ e .ensures .rest ∙ ap (λ s. goingOn s rest) (c .before .enum-told3 .given .1);
+        gsoSize = e .ensures .gsoSize;
+        gsoType = e .ensures .gsoType;
+      },
+    )
+
+-- src/divider.rt:150:1
+returns : tie.Need-returns
+returns c =
+    let a = c .before .before .before .before .before .before .before .args in
+    let h = c .before .before .before .before .before .at in
+    let x = c .before .before .before .extra-follows in
+    let m = c .before .before .before .before .more-data in
+    let e = c .before .before .read-extras in
+    let rest = scan (behind (a .page .now) (a .first) (a .posted) (e .result .count + 1)) 1 (e .result .count) false (m .result) in
+    let start = first-read (a .page .now) (a .first) (a .posted) (x .result) (m .result) (c .before .before .before .before .before .before .before .pre .1) (x .ensures ∙ follows-bit _ (h .result) (h .ensures)) (m .ensures ∙ more-bit _ (h .result) (h .ensures)) in
+    read-misshapen _ _ _ (start ∙ e .ensures .rest ∙ ap (λ s. goingOn s rest) (c .enum-told .given .1))
+
+-- src/divider.rt:150:1
+returns-2 : tie.Need-returns-2
+returns-2 c =
+    let a = c .before .before .before .before .before .before .before .args in
+    let h = c .before .before .before .before .before .at in
+    let x = c .before .before .before .extra-follows in
+    let m = c .before .before .before .before .more-data in
+    let e = c .before .before .read-extras in
+    let rest = scan (behind (a .page .now) (a .first) (a .posted) (e .result .count + 1)) 1 (e .result .count) false (m .result) in
+    let start = first-read (a .page .now) (a .first) (a .posted) (x .result) (m .result) (c .before .before .before .before .before .before .before .pre .1) (x .ensures ∙ follows-bit _ (h .result) (h .ensures)) (m .ensures ∙ more-bit _ (h .result) (h .ensures)) in
+    read-beginning _ _ _ (start ∙ e .ensures .rest ∙ ap (λ s. goingOn s rest) (c .enum-told2 .given .1))
+
+-- src/divider.rt:150:1
+returns-3 : tie.Need-returns-3
+returns-3 c = search needs
+
+pub read-spec : {M : Type 1} → statement M
+read-spec =
+    tie.close
+    (tie.spec
+    at-requires
+    more-data-requires
+    extra-follows-requires
+    read-extras-requires
+    enum-told
+    enum-told-2
+    enum-told-3
+    read-rest-requires
+    returns
+    returns-2
+    returns-3)

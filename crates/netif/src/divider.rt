@@ -1,0 +1,214 @@
+// Where the packet at the front of a transmit ring ends, and what is to be known of it.
+ghost use mathlib.Core.Path.{_≡_};
+ghost use mathlib.Core.Bool.{true};
+ghost use Prim.Native.Nat.{_+_, _≤_, _<_};
+ghost use lib.ListN.{length};
+ghost use Rattle.ring.specs.Ring.{pageSize, slotsFrom};
+ghost use Rattle.netif.specs.Slot.{slotWidth, slotCount};
+ghost use Rattle.netif.specs.Grammar.{within};
+ghost use Rattle.netif.specs.Divide.{owed};
+ghost use Rattle.netif.specs.Front.{ExtrasRead, LaterRead, FrontRead, AfterExtras};
+use crate::DataSlot;
+use crate::Extra;
+
+// How far the slots that were read make a packet.
+pub enum Shape {
+    Whole,
+    Beginning,
+    Misshapen,
+}
+
+// The extras of a packet: how many, and the last one's gso fields.
+pub struct Extras {
+    pub shape: Shape,
+    pub count: u32,
+    pub gso_size: u16,
+    pub gso_type: u8,
+}
+
+// The later data slots of a packet: how many, and their sizes together.
+pub struct Later {
+    pub shape: Shape,
+    pub count: u32,
+    pub sum: u32,
+}
+
+// What is to be known of a whole packet: its first slot, its numbers of slots and of extras, the sizes of its later data slots
+// together, and the last extra's gso fields.
+pub struct Outline {
+    pub head: DataSlot,
+    pub slots: u32,
+    pub extras: u32,
+    pub later: u32,
+    pub gso_size: u16,
+    pub gso_type: u8,
+}
+
+// What stands at the front of the slots posted.
+pub enum Front {
+    Whole(Outline),
+    Beginning,
+    Misshapen,
+}
+
+// Whether a packet may have so many data slots and extras.
+pub fn fits(datas: u32, extras: u32) -> bool
+    requires { ⌜ (datas ≤ 1000) × (extras ≤ 1000) ⌝ }
+    ensures { λ r. ⌜ r ≡ within datas extras ⌝ }
+{
+    datas + extras <= 18
+}
+
+// The least number of slots that an announcement asks for.
+pub fn owed_by(announced: bool) -> u32
+    ensures { λ r. ⌜ (r ≡ owed announced) × (r ≤ 1) ⌝ }
+{
+    if announced { 1 } else { 0 }
+}
+
+// The extras behind the first slot, if it announced any; more says whether it announced more data.
+fn read_extras(page: &[u8], first: u32, posted: u32, announced: bool, more: bool) -> Extras
+    requires { ⌜ (length (now page) ≡ pageSize) × (1 ≤ posted) × (posted ≤ 256) ⌝ }
+    ensures { λ r. ⌜ ExtrasRead (now (page .entry)) first posted announced more r ⌝ }
+{
+    let mut count: u32 = 0;
+    let mut another = announced;
+    let mut gso_size: u16 = 0;
+    let mut gso_type: u8 = 0;
+    let need = 1 + owed_by(more);
+    while another {
+        if !fits(need, count + 1) {
+            return Extras {
+                shape: Shape::Misshapen,
+                count,
+                gso_size,
+                gso_type,
+            };
+        }
+        if count + 1 == posted {
+            return Extras {
+                shape: Shape::Beginning,
+                count,
+                gso_size,
+                gso_type,
+            };
+        }
+        let extra = Extra::at(page, ring::ahead(first, count + 1));
+        if extra.kind != 1 {
+            return Extras {
+                shape: Shape::Misshapen,
+                count,
+                gso_size,
+                gso_type,
+            };
+        }
+        gso_size = extra.gso_size;
+        gso_type = extra.gso_type;
+        another = extra.another_follows();
+        count += 1;
+    }
+    Extras {
+        shape: Shape::Whole,
+        count,
+        gso_size,
+        gso_type,
+    }
+}
+
+// The data slots behind the extras, if the first slot announced any. Each one's size goes into the table as it is added up, so
+// that it is read once; the place 0 is the first slot's.
+fn read_later(
+    page: &[u8],
+    first: u32,
+    posted: u32,
+    extras: u32,
+    announced: bool,
+    sizes: &mut [u16; 18],
+) -> Later
+    requires { ⌜ (length (now page) ≡ pageSize) × (posted ≤ 256) × (extras + 1 ≤ posted) × (within 1 extras ≡ true) × (length (now sizes) ≡ 18) ⌝ }
+    ensures { λ r. ⌜ LaterRead (now (page .entry)) first posted extras announced (now (sizes .entry)) (now (sizes .exit)) r ⌝ }
+{
+    let mut count: u32 = 0;
+    let mut sum: u32 = 0;
+    let mut more = announced;
+    while more {
+        if !fits(count + 2, extras) {
+            return Later {
+                shape: Shape::Misshapen,
+                count,
+                sum,
+            };
+        }
+        let i = count + 1 + extras;
+        if i == posted {
+            return Later {
+                shape: Shape::Beginning,
+                count,
+                sum,
+            };
+        }
+        let slot = DataSlot::at(page, ring::ahead(first, i));
+        if slot.extra_follows() {
+            return Later {
+                shape: Shape::Misshapen,
+                count,
+                sum,
+            };
+        }
+        sizes[(count + 1) as usize] = slot.size;
+        sum += slot.size as u32;
+        more = slot.more_data();
+        count += 1;
+    }
+    Later {
+        shape: Shape::Whole,
+        count,
+        sum,
+    }
+}
+
+// The packet whose first slot and extras were read.
+fn read_rest(
+    page: &[u8],
+    first: u32,
+    posted: u32,
+    head: DataSlot,
+    extras: Extras,
+    more: bool,
+    sizes: &mut [u16; 18],
+) -> Front
+    requires { ⌜ (length (now page) ≡ pageSize) × (posted ≤ 256) × (length (now sizes) ≡ 18) × AfterExtras (now page) first posted head more extras ⌝ }
+    ensures { λ r. ⌜ FrontRead (slotsFrom slotWidth slotCount (now (page .entry)) first posted) (now (sizes .entry)) (now (sizes .exit)) r ⌝ }
+{
+    let later = read_later(page, first, posted, extras.count, more, sizes);
+    let shape = later.shape;
+    match shape {
+        Shape::Misshapen => Front::Misshapen,
+        Shape::Beginning => Front::Beginning,
+        Shape::Whole => Front::Whole(Outline {
+            head,
+            slots: later.count + 1 + extras.count,
+            extras: extras.count,
+            later: later.sum,
+            gso_size: extras.gso_size,
+            gso_type: extras.gso_type,
+        }),
+    }
+}
+
+// What stands at the front of the slots posted from counter first on. Of a whole packet the table gets the later data slots'
+// sizes, from the place 1 on.
+pub fn read(page: &[u8], first: u32, posted: u32, sizes: &mut [u16; 18]) -> Front
+    requires { ⌜ (length (now page) ≡ pageSize) × (1 ≤ posted) × (posted ≤ 256) × (length (now sizes) ≡ 18) ⌝ }
+    ensures { λ r. ⌜ FrontRead (slotsFrom slotWidth slotCount (now (page .entry)) first posted) (now (sizes .entry)) (now (sizes .exit)) r ⌝ }
+{
+    let head = DataSlot::at(page, first);
+    let more = head.more_data();
+    let extras = read_extras(page, first, posted, head.extra_follows(), more);
+    let shape = extras.shape;
+    match shape {
+        Shape::Misshapen => Front::Misshapen,
+        Shape::Beginning => Front::Beginning,
+        Shape::Whole => read_rest(page, first, posted, head, extras, more, sizes),
+    }
+}

@@ -1,0 +1,36 @@
+use borrow.Author.Needs.{needs}
+use Rattle.ring.specs.Ring.{notify}
+use Rattle.ring.proofs.Counters.{subtracted}
+use Rattle.ring.proofs.notify.Statement.{statement}
+use Rattle.ring.proofs.notify.Tie as tie
+use Rattle.ring.proofs.notify.Reads as reads
+use Rattle.ring.proofs.notify.Lts as lts
+use Rattle.std.proofs.num.wrapping_sub_u32.Reads as wrapping-sub-u32-reads
+use Rattle.words.proofs.u32_at.Reads as u32-at-reads
+
+-- src/lib.rt:88:9
+u32-at-requires : tie.Need-u32-at-requires
+u32-at-requires c κs = search needs
+
+-- src/lib.rt:89:5
+wrapping-sub-u32-requires : tie.Need-wrapping-sub-u32-requires
+wrapping-sub-u32-requires c κs = search needs
+
+-- src/lib.rt:89:46
+wrapping-sub-u32-requires-2 : tie.Need-wrapping-sub-u32-requires-2
+wrapping-sub-u32-requires-2 c κs = search needs
+
+-- src/lib.rt:84:1
+returns : tie.Need-returns
+unfolding notify
+returns c =
+    let a = c .before .before .before .before .args in
+    let e = c .before .before .u32-at .ensures in
+    let x = subtracted (c .before .wrapping-sub-u32 .result) (a .new) (c .before .before .u32-at .result) (search needs) (c .before .wrapping-sub-u32 .ensures) in
+    let y = subtracted (c .wrapping-sub-u322 .result) (a .new) (a .old) (search needs) (c .wrapping-sub-u322 .ensures) in
+    rw (x, y, e)
+
+pub notify-spec : {M : Type 1} → statement M
+notify-spec =
+    tie.close
+    (tie.spec u32-at-requires wrapping-sub-u32-requires wrapping-sub-u32-requires-2 returns)

@@ -1,0 +1,217 @@
+-- The laws of bytes and little-endian numbers in lists.
+use mathlib.Core.Path.{_≡_, refl, sym, ap, _∙_}
+use mathlib.Core.Bool.{Bool, true, false, _&&_}
+use lib.Dec.{ltb}
+use borrow.Author.Tests.{ltb-true}
+use mathlib.Core.Logic.{_⊎_, inl, inr, ⊎-elim}
+use mathlib.Core.List.{List, [], _∷_, _++_, append-nil, append-assoc}
+use Prim.Native.Nat.{ℕ, zero, suc, _+_, _-_, _*_, _/_, _%_, _≤_, _<_}
+use native.Mathlib.Nat.{div-div-eq-div-mul, zero-add, add-zero, add-assoc}
+use native.Mathlib.Numerals.{add-one, add-two, add-three}
+use native.Mathlib.Omega.{arith}
+use lib.ListN.{length, take, drop, getD, set, length-append, length-take, length-drop, List·getD-append, List·getD-eq-default, drop-of-length-le, take-append-drop}
+use lib.Seq.{getD-take, getD-drop, getD-append-add, ext-getD, length-take-le, sets-eq, drop-cons, set-at, append-snoc, drop-drop, take-suc, take-suc-set, take-all}
+use Rattle.words.specs.Word.{Bytes, u16At, u32At, u16Bytes, u32Bytes, splice}
+
+-- one of two numbers is the smaller
+pub lt-or-ge : (a b : ℕ) → (a < b) ⊎ (b ≤ a)
+lt-or-ge a zero = inr (omega arith)
+lt-or-ge zero (suc b) = inl (omega arith)
+lt-or-ge (suc a) (suc b) = ⊎-elim (λ h. inl (omega arith)) (λ h. inr (omega arith)) (lt-or-ge a b)
+
+and-left : (a b : Bool) → a && b ≡ true → (a ≡ true) × (b ≡ true)
+and-left true b h = (refl, h)
+and-left false b h = absurd (let z : _≡_ {A = ℕ} 0 1 = cc in omega arith)
+
+-- ---- splice
+
+module _ (l : List ℕ) (i : ℕ) (b : List ℕ) (fits : i + length b ≤ length l) where
+  pub splice-length : length (splice l i b) ≡ length l
+  unfolding splice
+  splice-length = simp (length-append, length-take, length-drop) (omega arith)
+
+  -- bytes outside stay
+  pub splice-before : (j : ℕ) → j < i → getD (splice l i b) j 0 ≡ getD l j 0
+  unfolding splice
+  splice-before j h =
+      let k : length (take i l) ≡ i = length-take-le i l (omega arith) in
+      List·getD-append (take i l ++ b) (drop (i + length b) l) 0 j (omega (arith, length-append (take i l) b))
+      ∙ List·getD-append (take i l) b 0 j (omega arith)
+      ∙ getD-take i l j 0 h
+
+  pub splice-after : (j : ℕ) → i + length b ≤ j → getD (splice l i b) j 0 ≡ getD l j 0
+  unfolding splice
+  splice-after j h =
+      let k : length (take i l ++ b) ≡ i + length b = length-append (take i l) b ∙ ap (_+ length b) (length-take-le i l (omega arith)) in
+      let e : j ≡ length (take i l ++ b) + (j - (i + length b)) = omega arith in
+      ap (λ (n : ℕ). getD (take i l ++ b ++ drop (i + length b) l) n 0) e
+      ∙ getD-append-add (take i l ++ b) (drop (i + length b) l) (j - (i + length b)) 0
+      ∙ getD-drop (i + length b) l (j - (i + length b)) 0
+      ∙ ap (λ (n : ℕ). getD l n 0) (omega arith)
+
+  -- bytes inside are those written
+  pub splice-inside : (j : ℕ) → j < length b → getD (splice l i b) (i + j) 0 ≡ getD b j 0
+  unfolding splice
+  splice-inside j h =
+      let k : length (take i l) ≡ i = length-take-le i l (omega arith) in
+      List·getD-append (take i l ++ b) (drop (i + length b) l) 0 (i + j) (omega (arith, length-append (take i l) b))
+      ∙ ap (λ (n : ℕ). getD (take i l ++ b) (n + j) 0) (sym k)
+      ∙ getD-append-add (take i l) b j 0
+
+-- nothing written
+pub splice-none : (l : List ℕ) (i : ℕ) → splice l i [] ≡ l
+unfolding splice
+splice-none l i = rw (add-zero i, append-nil (take i l)) (take-append-drop i l)
+
+-- one more behind what was written
+pub splice-more : (l : List ℕ) (i : ℕ) (b : List ℕ) (v n : ℕ) → n ≡ i + length b → n < length l → set (splice l i b) n v ≡ splice l i (b ++ (v ∷ []))
+unfolding splice
+splice-more l i b v n e h =
+    let k : length (take i l ++ b) ≡ n = length-append (take i l) b ∙ ap (_+ length b) (length-take-le i l (omega arith)) ∙ sym e in
+    let m : i + length (b ++ (v ∷ [])) ≡ suc n = ap (i +_) (length-append b (v ∷ [])) ∙ (omega arith) in
+    ap (λ (x : ℕ). set (take i l ++ b ++ drop x l) n v) (sym e)
+    ∙ ap (λ (r : List ℕ). set (take i l ++ b ++ r) n v) (drop-cons l n 0 h)
+    ∙ set-at (take i l ++ b) (getD l n 0) (drop (suc n) l) v n k
+    ∙ sym (append-snoc (take i l ++ b) v (drop (suc n) l))
+    ∙ rw (m, append-assoc (take i l) b (v ∷ []))
+
+-- two stores, and four, are one splice
+pub two-stores : (l : List ℕ) (i a b : ℕ) → i + 2 ≤ length l → set (set l i a) (i + 1) b ≡ splice l i (a ∷ b ∷ [])
+unfolding splice
+two-stores l i a b h = rw add-one (sets-eq (a ∷ b ∷ []) l i h)
+
+pub four-stores : (l : List ℕ) (i a b c d : ℕ) → i + 4 ≤ length l → set (set (set (set l i a) (i + 1) b) (i + 2) c) (i + 3) d ≡ splice l i (a ∷ b ∷ c ∷ d ∷ [])
+unfolding splice
+four-stores l i a b c d h = rw (add-one, add-two, add-three) (sets-eq (a ∷ b ∷ c ∷ d ∷ []) l i h)
+
+-- ---- the copy
+
+-- s copied to the front of d: one more byte
+pub copy-more : (d s : List ℕ) (k : ℕ) → k < length d → k < length s → set (take k s ++ drop k d) k (getD s k 0) ≡ take (k + 1) s ++ drop (k + 1) d
+copy-more d s k h g =
+    rw add-one
+    (ap (λ (r : List ℕ). set (take k s ++ r) k (getD s k 0)) (drop-cons d k 0 h)
+    ∙ set-at (take k s) (getD d k 0) (drop (suc k) d) (getD s k 0) k (length-take-le k s (omega arith))
+    ∙ sym (append-snoc (take k s) (getD s k 0) (drop (suc k) d))
+    ∙ ap (_++ drop (suc k) d) (sym (take-suc s k 0 g)))
+
+-- the first bytes of h set to those of s: one more
+pub held-more : (h s : List ℕ) (k : ℕ) → k < length h → k < length s → take k h ≡ take k s → take (k + 1) (set h k (getD s k 0)) ≡ take (k + 1) s
+held-more h s k f g e = rw add-one (take-suc-set h k (getD s k 0) f ∙ ap (_++ (getD s k 0 ∷ [])) e ∙ sym (take-suc s k 0 g))
+
+-- a copy of all of s at the front of d
+pub copied-whole : (d h s : List ℕ) (n : ℕ) → n ≡ length s → take n h ≡ take n s → take n h ++ drop n d ≡ splice d 0 s
+unfolding splice
+copied-whole d h s n e f =
+    let g : take n h ≡ s = f ∙ take-all n s (omega arith) in
+    rw (g, zero-add, e)
+
+-- bytes copied over a part of l that is as long: written over what stands there
+pub part-written : (l b : List ℕ) (a n : ℕ) → n ≡ length b → a ≤ length l → take a l ++ (splice (take n (drop a l)) 0 b ++ drop n (drop a l)) ≡ splice l a b
+unfolding splice
+part-written l b a n e h =
+    let none : drop (length b) (take n (drop a l)) ≡ [] = drop-of-length-le (take n (drop a l)) {i = length b} (omega (arith, length-take n (drop a l))) in
+    rw (zero-add, none, append-nil b, drop-drop n a l, e) (sym (append-assoc (take a l) b (drop (a + length b) l)))
+
+-- ---- parts of a list
+
+-- two lists of one length that agree on a part have the same part
+pub part-same : (l m : List ℕ) (a w : ℕ) → length l ≡ length m → ((j : ℕ) → a ≤ j → j < a + w → getD l j 0 ≡ getD m j 0) → take w (drop a l) ≡ take w (drop a m)
+part-same l m a w h f =
+    ext-getD 0 (take w (drop a l)) (take w (drop a m))
+    (simp (length-take, length-drop) (omega arith))
+    (λ j k.
+    let n : j < w = omega (arith, length-take w (drop a l)) in
+    getD-take w (drop a l) j 0 n ∙ getD-drop a l j 0 ∙ f (a + j) (omega arith) (omega arith) ∙ sym (getD-drop a m j 0) ∙ sym (getD-take w (drop a m) j 0 n))
+
+-- a 32-bit number where two lists agree
+pub u32-same : (l m : List ℕ) (a : ℕ) → ((j : ℕ) → a ≤ j → j < a + 4 → getD l j 0 ≡ getD m j 0) → u32At l a ≡ u32At m a
+unfolding u32At
+u32-same l m a f = rw (f a (omega arith) (omega arith), f (a + 1) (omega arith) (omega arith), f (a + 2) (omega arith) (omega arith), f (a + 3) (omega arith) (omega arith))
+
+-- ---- numbers written and read back
+
+-- two 16-bit numbers side by side are one of 32 bits
+pub pair-bytes : (x y : ℕ) → x < 65536 → y < 65536 → u32Bytes (x + 65536 * y) ≡ u16Bytes x ++ u16Bytes y
+unfolding u32Bytes u16Bytes
+pair-bytes x y h g =
+    let low : (x + 65536 * y) / 256 ≡ x / 256 + 256 * y = omega arith in
+    let high : (x + 65536 * y) / 65536 ≡ y = omega arith in
+    let top : (x + 65536 * y) / 16777216 ≡ y / 256 = sym (div-div-eq-div-mul (x + 65536 * y) 65536 256) ∙ ap (_/ 256) high in
+    let a : (x + 65536 * y) % 256 ≡ x % 256 = omega arith in
+    let b : (x + 65536 * y) / 256 % 256 ≡ x / 256 % 256 = rw low (omega arith) in
+    rw (a, b, high, top)
+
+pub halves : (l : List ℕ) (i : ℕ) → u16At l i + 65536 * u16At l (i + 2) ≡ u32At l i
+unfolding u16At u32At
+halves l i = rw (add-assoc i 2 1) (omega arith)
+
+pub u16-stored : (l : List ℕ) (i x : ℕ) → i + 2 ≤ length l → u16At (splice l i (u16Bytes x)) i ≡ x % 65536
+unfolding u16At u16Bytes
+u16-stored l i x h =
+    let b : List ℕ = x % 256 ∷ x / 256 % 256 ∷ [] in
+    let e0 : getD (splice l i b) (i + 0) 0 ≡ x % 256 = splice-inside l i b h 0 (omega arith) in
+    let e1 : getD (splice l i b) (i + 1) 0 ≡ x / 256 % 256 = splice-inside l i b h 1 (omega arith) in
+    let z : i + 0 ≡ i = omega arith in
+    rw (rw z at e0, e1) (omega arith)
+
+-- a number's low 16 bits, by their bytes; its low 32 bits, by halves
+two-bytes : (x : ℕ) → x % 256 + 256 * (x / 256 % 256) ≡ x % 65536
+two-bytes x = omega arith
+
+two-halves : (x : ℕ) → x % 65536 + 65536 * (x / 65536 % 65536) ≡ x % 4294967296
+two-halves x = omega arith
+
+four-bytes : (x : ℕ) → x % 256 + 256 * (x / 256 % 256) + 65536 * (x / 65536 % 256) + 16777216 * (x / 16777216 % 256) ≡ x % 4294967296
+four-bytes x =
+    let low : x % 256 + 256 * (x / 256 % 256) ≡ x % 65536 = two-bytes x in
+    let high : x / 65536 % 256 + 256 * (x / 65536 / 256 % 256) ≡ x / 65536 % 65536 = two-bytes (x / 65536) in
+    let same : x / 65536 / 256 ≡ x / 16777216 = div-div-eq-div-mul x 65536 256 in
+    join (x % 256 + 256 * (x / 256 % 256)) (x % 65536) (x / 65536 % 256) (x / 16777216 % 256) (x / 65536 % 65536) (x % 4294967296) low (rw same at high) (two-halves x)
+  where
+    join : (a a′ b c h w : ℕ) → a ≡ a′ → b + 256 * c ≡ h → a′ + 65536 * h ≡ w → a + 65536 * b + 16777216 * c ≡ w
+    join a a′ b c h w p q r = omega arith
+
+pub u32-stored : (l : List ℕ) (i x : ℕ) → i + 4 ≤ length l → u32At (splice l i (u32Bytes x)) i ≡ x % 4294967296
+unfolding u32At u32Bytes
+u32-stored l i x h =
+    let b : List ℕ = x % 256 ∷ x / 256 % 256 ∷ x / 65536 % 256 ∷ x / 16777216 % 256 ∷ [] in
+    let e0 : getD (splice l i b) (i + 0) 0 ≡ x % 256 = splice-inside l i b h 0 (omega arith) in
+    let e1 : getD (splice l i b) (i + 1) 0 ≡ x / 256 % 256 = splice-inside l i b h 1 (omega arith) in
+    let e2 : getD (splice l i b) (i + 2) 0 ≡ x / 65536 % 256 = splice-inside l i b h 2 (omega arith) in
+    let e3 : getD (splice l i b) (i + 3) 0 ≡ x / 16777216 % 256 = splice-inside l i b h 3 (omega arith) in
+    let z : i + 0 ≡ i = omega arith in
+    rw (rw z at e0, e1, e2, e3) (four-bytes x)
+
+-- ---- lists of bytes
+
+-- a computed list of bytes, by a test
+abbrev pub allBytes : List ℕ → Bool
+allBytes [] = true
+allBytes (x ∷ l) = ltb x 256 && allBytes l
+
+pub bytes-of : (l : List ℕ) → allBytes l ≡ true → Bytes l
+unfolding Bytes
+bytes-of [] h i = omega arith
+bytes-of (x ∷ l) h zero = ltb-true x 256 (and-left (ltb x 256) (allBytes l) h .0)
+bytes-of (x ∷ l) h (suc i) = bytes-of l (and-left (ltb x 256) (allBytes l) h .1) i
+
+module _ (l : List ℕ) (bytes : Bytes l) where
+  pub u16-small : (i : ℕ) → u16At l i < 65536
+  unfolding u16At Bytes
+  u16-small i = omega (arith, bytes i, bytes (i + 1))
+
+  pub u32-small : (i : ℕ) → u32At l i < 4294967296
+  unfolding u32At Bytes
+  u32-small i = omega (arith, bytes i, bytes (i + 1), bytes (i + 2), bytes (i + 3))
+
+  pub drop-bytes : (n : ℕ) → Bytes (drop n l)
+  unfolding Bytes
+  drop-bytes n i = rw getD-drop (bytes (n + i))
+
+  pub take-bytes : (n : ℕ) → Bytes (take n l)
+  unfolding Bytes
+  take-bytes n i = ⊎-elim
+      (λ h. rw (getD-take n l i 0 h) (bytes i))
+      (λ h. rw (List·getD-eq-default (take n l) 0 {n = i} (omega (arith, length-take n l))) (omega arith))
+      (lt-or-ge i n)
