@@ -12,13 +12,13 @@ const PAGE: usize = 4096;
 
 // The page that a reference names, or that its grant is not fit.
 pub enum Page {
-    Fit(usize),
+    Fit(u32),
     Unfit,
 }
 
 // The page that a slot's part is read from, or that its grant is not fit, or that the part lies outside of what is granted.
 pub enum Source {
-    At(usize),
+    At(u32),
     Unfit,
     Outside,
 }
@@ -32,8 +32,8 @@ pub fn fit_to_read(grants: &[u8], window: &[u8], gref: u32) -> Page
         return Page::Unfit;
     }
     let word = words::u32_at(grants, at);
-    let page = (word >> 2) as usize;
-    if window.len() < PAGE * page + PAGE {
+    let page = word >> 2;
+    if window.len() < PAGE * (page as usize) + PAGE {
         return Page::Unfit;
     }
     if words::bit_of(word, 0) {
@@ -84,21 +84,21 @@ pub fn lookup(grants: &[u8], window: &[u8], gref: u32, offset: u16, size: u16) -
 }
 
 // The part of the window itself that a slot names: size bytes from an offset of a page.
-pub fn part(window: &[u8], page: usize, offset: usize, size: usize) -> &[u8]
+pub fn part(window: &[u8], page: u32, offset: u16, size: u16) -> &[u8]
     requires { ⌜ (4096 * page + 4096 ≤ length (now window)) × (offset + size ≤ 4096) ⌝ }
     ensures { λ r. ⌜ now r ≡ pagePart (now (window .entry)) page offset size ⌝ }
 {
-    let a = PAGE * page + offset;
-    let b = a + size;
+    let a = PAGE * (page as usize) + offset as usize;
+    let b = a + size as usize;
     &window[a..b]
 }
 
 // Writes bytes at offset 0 of a page of the window.
-pub fn write(window: &mut [u8], page: usize, bytes: &[u8])
+pub fn write(window: &mut [u8], page: u32, bytes: &[u8])
     requires { ⌜ (4096 * page + 4096 ≤ length (now window)) × (length (now bytes) ≤ 4096) ⌝ }
     ensures { λ _. ⌜ now (window .exit) ≡ withPage (now (window .entry)) page (now (bytes .entry)) ⌝ }
 {
-    let a = PAGE * page;
+    let a = PAGE * (page as usize);
     let b = a + bytes.len();
     words::copy(bytes, &mut window[a..b]);
 }

@@ -25,8 +25,8 @@ u32-at-requires : tie.Need-u32-at-requires
 u32-at-requires c κs = search needs
 
 -- src/lib.rt:34:16
-cast-page : tie.Need-cast-page
-cast-page c = search needs
+cast-if2 : tie.Need-cast-if2
+cast-if2 c = search needs
 
 -- src/lib.rt:35:23
 mul-if2 : tie.Need-mul-if2
@@ -68,7 +68,7 @@ fit-to-read-spec =
     add-if1
     returns
     u32-at-requires
-    cast-page
+    cast-if2
     mul-if2
     add-if2
     returns-2
