@@ -111,6 +111,12 @@ module _ (w n : ℕ) where
   slot-u32 page i j h =
       simp (slot-byte page i j (omega arith), slot-byte page i (j + 1) (omega arith), slot-byte page i (j + 2) (omega arith), slot-byte page i (j + 3) (omega arith), add-assoc)
 
+  -- replies one after the other
+  pub replies-append : (a b : List (List ℕ)) (page : List ℕ) (i : ℕ) → withReplies w n page i (a ++ b) ≡ withReplies w n (withReplies w n page i a) (i + length a) b
+  replies-append [] b page i = rw (add-zero i)
+  replies-append (r ∷ a) b page i =
+      replies-append a b (splice page (slotPlace w n i) r) (suc i) ∙ ap (λ (j : ℕ). withReplies w n (withReplies w n (splice page (slotPlace w n i) r) (suc i) a) j b) (omega arith)
+
   -- one more reply
   pub replies-more : (rs : List (List ℕ)) (page : List ℕ) (i : ℕ) (r : List ℕ) → withReplies w n page i (rs ++ (r ∷ [])) ≡ splice (withReplies w n page i rs) (slotPlace w n (i + length rs)) r
   replies-more [] page i r = rw add-zero

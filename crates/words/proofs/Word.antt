@@ -10,7 +10,7 @@ use native.Mathlib.Nat.{div-div-eq-div-mul, zero-add, add-zero, add-assoc}
 use native.Mathlib.Numerals.{add-one, add-two, add-three}
 use native.Mathlib.Omega.{arith}
 use lib.ListN.{length, take, drop, getD, set, length-append, length-take, length-drop, List·getD-append, List·getD-eq-default, drop-of-length-le, take-append-drop}
-use lib.Seq.{getD-take, getD-drop, getD-append-add, ext-getD, length-take-le, sets-eq, drop-cons, set-at, append-snoc, drop-drop, take-suc, take-suc-set, take-all}
+use lib.Seq.{getD-take, getD-drop, getD-append-add, ext-getD, length-take-le, sets-eq, drop-cons, set-at, append-snoc, drop-drop, drop-append-add, take-at, take-suc, take-suc-set, take-all}
 use Rattle.words.specs.Word.{Bytes, u16At, u32At, u16Bytes, u32Bytes, splice}
 
 -- one of two numbers is the smaller
@@ -74,6 +74,19 @@ splice-more l i b v n e h =
     ∙ set-at (take i l ++ b) (getD l n 0) (drop (suc n) l) v n k
     ∙ sym (append-snoc (take i l ++ b) v (drop (suc n) l))
     ∙ rw (m, append-assoc (take i l) b (v ∷ []))
+
+-- what is written right behind what was written
+pub splice-join : (l : List ℕ) (i : ℕ) (a b : List ℕ) (n : ℕ) → n ≡ i + length a → n ≤ length l → splice (splice l i a) n b ≡ splice l i (a ++ b)
+unfolding splice
+splice-join l i a b n e h =
+    let k : length (take i l ++ a) ≡ n = length-append (take i l) a ∙ ap (_+ length a) (length-take-le i l (omega arith)) ∙ sym e in
+    let front : take n (take i l ++ a ++ drop (i + length a) l) ≡ take i l ++ a = take-at (take i l ++ a) (drop (i + length a) l) n k in
+    let behind : drop (n + length b) (take i l ++ a ++ drop (i + length a) l) ≡ drop (i + length (a ++ b)) l
+    = ap (λ (x : ℕ). drop (x + length b) (take i l ++ a ++ drop (i + length a) l)) (sym k)
+    ∙ drop-append-add (take i l ++ a) (drop (i + length a) l) (length b)
+    ∙ drop-drop (length b) (i + length a) l
+    ∙ ap (λ (x : ℕ). drop x l) (add-assoc i (length a) (length b) ∙ ap (i +_) (sym (length-append a b))) in
+    rw (front, behind, append-assoc (take i l) a b)
 
 -- two stores, and four, are one splice
 pub two-stores : (l : List ℕ) (i a b : ℕ) → i + 2 ≤ length l → set (set l i a) (i + 1) b ≡ splice l i (a ∷ b ∷ [])

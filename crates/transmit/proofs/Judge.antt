@@ -1,0 +1,80 @@
+-- The laws of judging a packet: a good one's total is a frame's, and its parts joined are that many bytes.
+use mathlib.Core.Path.{_≡_, refl, _∙_}
+use mathlib.Core.List.{List, [], _∷_}
+use mathlib.Core.Bool.{Bool, true, false, not, _&&_}
+use Prim.Native.Nat.{ℕ, suc, _+_, _*_, _≤_}
+use native.Mathlib.Omega.{arith}
+use lib.ListN.{length, length-append, length-take, length-drop}
+use lib.Dec.{ltb}
+use borrow.Author.Tests.{ltb-false, leb-true, not-false}
+use Rattle.words.specs.Word.{Bytes}
+use Rattle.grant.specs.Grant.{inRange, fitTransmit}
+use Rattle.grant.proofs.Grant.{part-length}
+use Rattle.netif.specs.Packet.{firstOf, laterOf, sizes}
+use Rattle.netif.specs.Slot.{Slot, gref, offset, size}
+use Rattle.transmit.specs.Judge.{totalOf, ownPart, judgeSizes, judgeSlot, judgeLater, judge, partOf, laterParts, frameOf}
+use Rattle.netif.specs.declared.Verdict.{Verdict}
+use Rattle.netif.specs.declared.Verdict.the-variants.{Good, Bad}
+use Rattle.netif.specs.Verdict.{_orElse_, test}
+use Rattle.words.proofs.Word.{u16-small}
+
+-- ---- judging
+
+orElse-good : (v u : Verdict) → v orElse u ≡ Good → (v ≡ Good) × (u ≡ Good)
+orElse-good Good u h = (refl, h)
+orElse-good (Bad c k) u h = absurd (let z : _≡_ {A = ℕ} 0 1 = cc in omega arith)
+
+test-good : (b : Bool) (c k : ℕ) → test b c k ≡ Good → b ≡ false
+test-good true c k h = absurd (let z : _≡_ {A = ℕ} 0 1 = cc in omega arith)
+test-good false c k h = refl
+
+pub sizes-good : (total later : ℕ) → judgeSizes total later ≡ Good → later ≤ total
+unfolding judgeSizes
+sizes-good total later h =
+    let a = orElse-good (test (ltb total 14) 1 0) _ h .1 in
+    let b = orElse-good (test (ltb 65535 total) 2 0) _ a .1 in
+    ltb-false total later (test-good _ 3 0 b)
+
+module _ (table window : List ℕ) where
+  -- a good packet, rule by rule
+  pub good-parts : (e : ℕ) (p : List Slot) → judge table window e p ≡ Good
+      → (judgeSizes (totalOf p) (sizes (laterOf e p)) ≡ Good) × (judgeSlot table window 0 (firstOf p) (ownPart e p) ≡ Good) × (judgeLater table window (suc e) (laterOf e p) ≡ Good)
+  unfolding judge
+  good-parts e p h =
+      let a = orElse-good (judgeSizes (totalOf p) (sizes (laterOf e p))) _ h in
+      let b = orElse-good (judgeSlot table window 0 (firstOf p) (ownPart e p)) _ (a .1) in
+      let c = orElse-good (judgeLater table window (suc e) (laterOf e p)) _ (b .1) in
+      (a .0, b .0, c .0)
+
+  -- its later sizes leave the first slot a part
+  pub good-sizes : (e : ℕ) (p : List Slot) → judge table window e p ≡ Good → sizes (laterOf e p) ≤ totalOf p
+  good-sizes e p h = sizes-good (totalOf p) (sizes (laterOf e p)) (good-parts e p h .0)
+
+  -- ---- parts
+
+  slot-good : (k : ℕ) (s : Slot) (n : ℕ) → judgeSlot table window k s n ≡ Good → length (partOf table window s n) ≡ n
+  unfolding judgeSlot partOf
+  slot-good k s n h =
+      let (a, b) = orElse-good (test (not (fitTransmit table window (gref s))) 4 k) (test (not (inRange table (gref s) (offset s) n)) 5 k) h in
+      part-length table window (gref s) (offset s) n
+      (not-false _ (test-good (not (fitTransmit table window (gref s))) 4 k a))
+      (not-false _ (test-good (not (inRange table (gref s) (offset s) n)) 5 k b))
+
+  later-good : (l : List Slot) (k : ℕ) → judgeLater table window k l ≡ Good → length (laterParts table window l) ≡ sizes l
+  later-good [] k h = refl
+  later-good (s ∷ l) k h =
+      let (a, b) = orElse-good (judgeSlot table window k s (size s)) (judgeLater table window (suc k) l) h in
+      length-append (partOf table window s (size s)) (laterParts table window l) ∙ rw (slot-good k s (size s) a, later-good l (suc k) b)
+
+  -- the parts of a good packet joined are as many bytes as its total
+  pub frame-length : (e : ℕ) (p : List Slot) → judge table window e p ≡ Good → length (frameOf table window e p) ≡ totalOf p
+  unfolding frameOf ownPart
+  frame-length e p h =
+      let g = good-parts e p h in
+      length-append (partOf table window (firstOf p) (ownPart e p)) (laterParts table window (laterOf e p))
+      ∙ rw (slot-good 0 (firstOf p) (ownPart e p) (g .1), later-good (laterOf e p) (suc e) (g .2)) (omega (arith, good-sizes e p h))
+
+-- cause 2 holds of no packet whose slots are bytes
+pub total-small : (p : List Slot) → Bytes (firstOf p) → totalOf p ≤ 65535
+unfolding totalOf size
+total-small p h = omega (arith, u16-small (firstOf p) h 10)

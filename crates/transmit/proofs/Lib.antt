@@ -1,0 +1,6 @@
+-- The laws of the definitions.
+pub mod Judge
+pub mod Take
+pub mod Replies
+pub mod Joining
+pub mod Demand3

@@ -1,0 +1,111 @@
+-- A packet's replies as the code writes them: slot after slot in three runs, which together are the definition's; and what stands
+-- in each slot afterwards.
+use mathlib.Core.Path.{_≡_, refl, sym, ap, _∙_}
+use mathlib.Core.List.{List, [], _∷_, _++_, map, map-append}
+use Prim.Native.Nat.{ℕ, zero, suc, _+_, _-_, _≤_, _<_}
+use native.Mathlib.Omega.{arith}
+use native.Mathlib.Numerals.{add-one}
+use lib.ListN.{length, take, drop, length-map}
+use lib.Seq.{take-at, drop-at}
+use Rattle.words.specs.Word.{splice}
+use Rattle.ring.specs.Ring.{wadd, slotPlace, slotAt, slotsFrom, withReplies}
+use Rattle.ring.proofs.Ring.{slots-length, slots-same, slots-split, slots-snoc, slot-wrap, place-wrap, replies-length, replies-slot, replies-more, replies-append}
+use Rattle.netif.specs.Slot.{Slot}
+use Rattle.transmit.specs.Judge.{dataReply, extraReply, repliesOf}
+use Rattle.transmit.specs.Take.{repliesTo}
+use Rattle.transmit.specs.Code.{repliedBy}
+use Rattle.transmit.proofs.Take.{short-map, data-short, extra-short}
+
+-- ---- a run of replies, each made by f of its slot
+
+module _ (f : Slot → List ℕ) (short : (s : Slot) → length (f s) ≤ 12) (page : List ℕ) (size : length page ≡ 4096) (n : ℕ) where
+  run-length : (k : ℕ) → length (map f (slotsFrom 12 256 page n k)) ≡ k
+  run-length k = length-map (slotsFrom 12 256 page n k) f ∙ slots-length 12 256 page k n
+
+  pub by-none : page ≡ repliedBy f page n 0
+  unfolding repliedBy
+  by-none = refl
+
+  pub by-length : (k : ℕ) → length (repliedBy f page n k) ≡ 4096
+  unfolding repliedBy
+  by-length k = replies-length 12 256 (omega arith) (map f (slotsFrom 12 256 page n k)) page n (omega arith) (short-map f short (slotsFrom 12 256 page n k)) ∙ size
+
+  -- the slots behind stay
+  pub by-slot : (k j : ℕ) → n + k ≤ j → j < n + 256 → slotAt 12 256 (repliedBy f page n k) j ≡ slotAt 12 256 page j
+  unfolding repliedBy
+  by-slot k j a b =
+      replies-slot 12 256 (omega arith) (map f (slotsFrom 12 256 page n k)) page n (omega arith) (short-map f short (slotsFrom 12 256 page n k)) j (omega (arith, run-length k)) b
+
+  by-next : (k : ℕ) → splice (repliedBy f page n k) (slotPlace 12 256 (n + k)) (f (slotAt 12 256 page (n + k))) ≡ repliedBy f page n (k + 1)
+  unfolding repliedBy
+  by-next k =
+      ap (λ (x : ℕ). splice (withReplies 12 256 page n (map f (slotsFrom 12 256 page n k))) (slotPlace 12 256 (n + x)) (f (slotAt 12 256 page (n + k)))) (sym (run-length k))
+      ∙ sym (replies-more 12 256 (map f (slotsFrom 12 256 page n k)) page n (f (slotAt 12 256 page (n + k))))
+      ∙ ap (withReplies 12 256 page n) (sym (map-append f (slotsFrom 12 256 page n k) (slotAt 12 256 page (n + k) ∷ [])) ∙ sym (ap (map f) (slots-snoc 12 256 page k n)))
+
+-- one more reply, at a counter that wraps
+module _ (f : Slot → List ℕ) (short : (s : Slot) → length (f s) ≤ 12) (page : List ℕ) (size : length page ≡ 4096) (first from i m : ℕ) (here : m ≡ wadd first (from + i)) where
+  wrapped-place : slotPlace 12 256 m ≡ slotPlace 12 256 (first + from + i)
+  unfolding wadd
+  wrapped-place = ap (slotPlace 12 256) here ∙ place-wrap 12 256 (first + (from + i)) refl ∙ ap (slotPlace 12 256) (omega arith)
+
+  wrapped-slot : (p : List ℕ) → slotAt 12 256 p m ≡ slotAt 12 256 p (first + from + i)
+  unfolding wadd
+  wrapped-slot p = ap (slotAt 12 256 p) here ∙ slot-wrap 12 256 p (first + (from + i)) refl ∙ ap (slotAt 12 256 p) (omega arith)
+
+  pub by-more : i < 256 → (now : List ℕ) → now ≡ repliedBy f page (first + from) i → splice now (slotPlace 12 256 m) (f (slotAt 12 256 now m)) ≡ repliedBy f page (first + from) (i + 1)
+  by-more k now inv =
+      let s : slotAt 12 256 now m ≡ slotAt 12 256 page (first + from + i)
+      = wrapped-slot now ∙ ap (λ (p : List ℕ). slotAt 12 256 p (first + from + i)) inv ∙ by-slot f short page size (first + from) i (first + from + i) (omega arith) (omega arith) in
+      rw (wrapped-place, s, inv) (by-next f short page size (first + from) i)
+
+-- ---- the three runs
+
+module _ (page : List ℕ) (size : length page ≡ 4096) (c e k status : ℕ) (few : e + k < 256) where
+  r : List ℕ
+  r = dataReply status (slotAt 12 256 page c)
+
+  page1 : List ℕ
+  page1 = splice page (slotPlace 12 256 c) (dataReply status (slotAt 12 256 page c))
+
+  page1-length : length page1 ≡ 4096
+  unfolding page1
+  page1-length = replies-length 12 256 (omega arith) (dataReply status (slotAt 12 256 page c) ∷ []) page c (omega arith) (data-short status (slotAt 12 256 page c), tt) ∙ size
+
+  page1-slot : (j : ℕ) → c + 1 ≤ j → j < c + 256 → slotAt 12 256 page1 j ≡ slotAt 12 256 page j
+  unfolding page1
+  page1-slot j a b = replies-slot 12 256 (omega arith) (dataReply status (slotAt 12 256 page c) ∷ []) page c (omega arith) (data-short status (slotAt 12 256 page c), tt) j a b
+
+  page1-extras : slotsFrom 12 256 page1 (c + 1) e ≡ slotsFrom 12 256 page (suc c) e
+  page1-extras = slots-same 12 256 page1 page e (c + 1) (λ j a b. page1-slot j a (omega arith)) ∙ ap (λ (x : ℕ). slotsFrom 12 256 page x e) (add-one c)
+
+  page2-later : slotsFrom 12 256 (repliedBy extraReply page1 (c + 1) e) (c + (1 + e)) k ≡ slotsFrom 12 256 page (suc c + e) k
+  page2-later =
+      slots-same 12 256 (repliedBy extraReply page1 (c + 1) e) page k (c + (1 + e))
+      (λ j a b. by-slot extraReply extra-short page1 page1-length (c + 1) e j (omega arith) (omega arith) ∙ page1-slot j (omega arith) (omega arith))
+      ∙ ap (λ (x : ℕ). slotsFrom 12 256 page x k) (omega arith)
+
+  -- the definition's replies, by the slots of the page
+  all-replies : repliesOf e (slotsFrom 12 256 page c (suc (e + k))) status
+      ≡ dataReply status (slotAt 12 256 page c) ∷ (map extraReply (slotsFrom 12 256 page (suc c) e) ++ map (dataReply status) (slotsFrom 12 256 page (suc c + e) k))
+  unfolding repliesOf
+  all-replies =
+      let s : slotsFrom 12 256 page (suc c) (e + k) ≡ slotsFrom 12 256 page (suc c) e ++ slotsFrom 12 256 page (suc c + e) k = slots-split 12 256 page e k (suc c) in
+      let x : take e (slotsFrom 12 256 page (suc c) (e + k)) ≡ slotsFrom 12 256 page (suc c) e
+      = ap (take e) s ∙ take-at (slotsFrom 12 256 page (suc c) e) (slotsFrom 12 256 page (suc c + e) k) e (slots-length 12 256 page e (suc c)) in
+      let y : drop e (slotsFrom 12 256 page (suc c) (e + k)) ≡ slotsFrom 12 256 page (suc c + e) k
+      = ap (drop e) s ∙ drop-at (slotsFrom 12 256 page (suc c) e) (slotsFrom 12 256 page (suc c + e) k) e (slots-length 12 256 page e (suc c)) in
+      rw (x, y)
+
+  pub replied-all : repliedBy (dataReply status) (repliedBy extraReply (splice page (slotPlace 12 256 c) (dataReply status (slotAt 12 256 page c))) (c + 1) e) (c + (1 + e)) k ≡ repliesTo page c (suc (e + k)) e status
+  unfolding repliesTo repliedBy page1
+  replied-all =
+      let ex : List (List ℕ) = map extraReply (slotsFrom 12 256 page (suc c) e) in
+      let la : List (List ℕ) = map (dataReply status) (slotsFrom 12 256 page (suc c + e) k) in
+      let m : length (map extraReply (slotsFrom 12 256 page (suc c) e)) ≡ e = length-map (slotsFrom 12 256 page (suc c) e) extraReply ∙ slots-length 12 256 page e (suc c) in
+      let two : repliedBy extraReply page1 (c + 1) e ≡ withReplies 12 256 page1 (suc c) ex = ap (λ (l : List Slot). withReplies 12 256 page1 (c + 1) (map extraReply l)) page1-extras ∙ ap (λ (x : ℕ). withReplies 12 256 page1 x ex) (add-one c) in
+      ap (λ (l : List Slot). withReplies 12 256 (repliedBy extraReply page1 (c + 1) e) (c + (1 + e)) (map (dataReply status) l)) page2-later
+      ∙ ap (λ (p : List ℕ). withReplies 12 256 p (c + (1 + e)) la) two
+      ∙ ap (λ (x : ℕ). withReplies 12 256 (withReplies 12 256 page1 (suc c) ex) x la) (omega arith)
+      ∙ sym (replies-append 12 256 ex la page1 (suc c))
+      ∙ ap (withReplies 12 256 page c) (sym all-replies)

@@ -1,0 +1,139 @@
+-- What a transmit call's definition comes to in each of its cases, and what it leaves of the ring page.
+use mathlib.Core.Path.{_≡_, ap, _∙_}
+use mathlib.Core.List.{List, [], _∷_, _++_, map}
+use mathlib.Core.Bool.{true, false}
+use Prim.Native.Nat.{ℕ, suc, _+_, _≤_, _<_}
+use native.Mathlib.Omega.{arith}
+use lib.ListN.{length, take, getD, length-append, length-take, length-drop, length-map}
+use borrow.Author.Tests.{eq-eqb, ne-eqb, le-ltb}
+use Rattle.words.specs.Word.{u16Bytes, u32Bytes}
+use Rattle.ring.specs.Ring.{wadd, reqProd, posted, asking, withReqEvent, withRspProd, slotAt, slotsFrom, withReplies}
+use Rattle.netif.specs.Slot.{Slot, slotWidth, slotCount, transmitReply}
+use Rattle.netif.specs.Divide.{divide, onCut}
+use Rattle.netif.specs.declared.Queue.{Queue}
+use Rattle.transmit.specs.Judge.{judge, dataReply, extraReply, repliesOf}
+use Rattle.netif.specs.Packet.{firstOf, extrasOf, laterOf}
+use Rattle.transmit.specs.Take.{waitingSlots, repliesTo, repliedPage, Look, stop, ready, look, takeOf, transmitTake}
+use Rattle.words.proofs.Word.{splice-length, splice-before, u32-same}
+use Rattle.ring.proofs.Ring.{Short, slots-length, replies-length, replies-header, replies-slot, header-slot}
+
+-- ---- the page
+
+module _ (page : List ℕ) (size : length page ≡ 4096) where
+  pub asking-length : length (asking page) ≡ 4096
+  unfolding asking withReqEvent u32Bytes
+  asking-length = splice-length page 4 _ (omega arith) ∙ size
+
+  pub asking-requests : reqProd (asking page) ≡ reqProd page
+  unfolding asking withReqEvent u32Bytes
+  asking-requests = u32-same (asking page) page 0 (λ j a b. splice-before page 4 _ (omega arith) j (omega arith))
+
+  pub asking-slot : (j : ℕ) → slotAt slotWidth slotCount (asking page) j ≡ slotAt slotWidth slotCount page j
+  unfolding asking withReqEvent u32Bytes
+  asking-slot j = header-slot 12 256 (omega arith) page 4 _ (omega arith) (omega arith) j
+
+-- ---- replies
+
+pub short-map : (f : Slot → List ℕ) → ((s : Slot) → length (f s) ≤ 12) → (l : List Slot) → Short 12 (map f l)
+short-map f h [] = tt
+short-map f h (s ∷ l) = (h s, short-map f h l)
+
+short-append : (a b : List (List ℕ)) → Short 12 a → Short 12 b → Short 12 (a ++ b)
+short-append [] b h k = k
+short-append (r ∷ a) b h k = (h .0, short-append a b (h .1) k)
+
+pub data-short : (status : ℕ) (s : Slot) → length (dataReply status s) ≤ 12
+unfolding dataReply transmitReply u16Bytes
+data-short status s = omega arith
+
+pub extra-short : (s : Slot) → length (extraReply s) ≤ 12
+unfolding extraReply transmitReply u16Bytes
+extra-short s = omega arith
+
+pub replies-short : (e : ℕ) (p : List Slot) (status : ℕ) → Short 12 (repliesOf e p status)
+unfolding repliesOf
+replies-short e p status = (
+  data-short status (firstOf p),
+  short-append (map extraReply (extrasOf e p)) (map (dataReply status) (laterOf e p))
+      (short-map extraReply extra-short (extrasOf e p))
+      (short-map (dataReply status) (data-short status) (laterOf e p)),
+)
+
+pub replies-count : (e : ℕ) (p : List Slot) (status : ℕ) → suc e ≤ length p → length (repliesOf e p status) ≡ length p
+unfolding repliesOf
+replies-count e p status h =
+    simp (length-append, length-map, length-take, length-drop) (omega arith)
+
+module _ (page : List ℕ) (size : length page ≡ 4096) (c slots e status : ℕ) where
+  abbrev all : List (List ℕ)
+  all = repliesOf e (slotsFrom slotWidth slotCount page c slots) status
+
+  pub to-length : length (repliesTo page c slots e status) ≡ 4096
+  unfolding repliesTo
+  to-length = replies-length 12 256 (omega arith) all page c (omega arith) (replies-short e _ status) ∙ size
+
+  pub to-header : (j : ℕ) → j < 64 → getD (repliesTo page c slots e status) j 0 ≡ getD page j 0
+  unfolding repliesTo
+  to-header j h = replies-header 12 256 (omega arith) all page c (omega arith) (replies-short e _ status) j h
+
+  -- the slots behind stay
+  pub to-slot : e < slots → (j : ℕ) → c + slots ≤ j → j < c + 256 → slotAt slotWidth slotCount (repliesTo page c slots e status) j ≡ slotAt slotWidth slotCount page j
+  unfolding repliesTo
+  to-slot h j a b =
+      let n : length (slotsFrom slotWidth slotCount page c slots) ≡ slots = slots-length 12 256 page slots c in
+      replies-slot 12 256 (omega arith) all page c (omega arith) (replies-short e _ status) j
+      (omega (arith, replies-count e (slotsFrom slotWidth slotCount page c slots) status (omega arith))) b
+
+-- rsp_prod
+module _ (page : List ℕ) (size : length page ≡ 4096) (x : ℕ) where
+  pub producer-length : length (withRspProd page x) ≡ 4096
+  unfolding withRspProd u32Bytes
+  producer-length = splice-length page 8 _ (omega arith) ∙ size
+
+  pub producer-header : (j : ℕ) → j < 8 → getD (withRspProd page x) j 0 ≡ getD page j 0
+  unfolding withRspProd u32Bytes
+  producer-header j h = splice-before page 8 _ (omega arith) j h
+
+  pub producer-slot : (j : ℕ) → slotAt slotWidth slotCount (withRspProd page x) j ≡ slotAt slotWidth slotCount page j
+  unfolding withRspProd u32Bytes
+  producer-slot j = header-slot 12 256 (omega arith) page 8 _ (omega arith) (omega arith) j
+
+module _ (page : List ℕ) (size : length page ≡ 4096) (c slots e status : ℕ) where
+  pub replied-length : length (repliedPage page c slots e status) ≡ 4096
+  unfolding repliedPage
+  replied-length = producer-length (repliesTo page c slots e status) (to-length page size c slots e status) (wadd c slots)
+
+  pub replied-requests : reqProd (repliedPage page c slots e status) ≡ reqProd page
+  unfolding repliedPage
+  replied-requests =
+      u32-same (repliedPage page c slots e status) page 0 (λ j a b.
+      producer-header (repliesTo page c slots e status) (to-length page size c slots e status) (wadd c slots) j (omega arith)
+      ∙ to-header page size c slots e status j (omega arith))
+
+  pub replied-slot : e < slots → (j : ℕ) → c + slots ≤ j → j < c + 256 → slotAt slotWidth slotCount (repliedPage page c slots e status) j ≡ slotAt slotWidth slotCount page j
+  unfolding repliedPage
+  replied-slot h j a b =
+      producer-slot (repliesTo page c slots e status) (to-length page size c slots e status) (wadd c slots) j
+      ∙ to-slot page size c slots e status h j a b
+
+module _ (table window : List ℕ) (q : Queue) (page : List ℕ) where
+  -- ---- the cases of a call
+
+  pub take-of : (frame : List ℕ) (x : Look) → look table window q page ≡ x → transmitTake table window q page frame ≡ takeOf table window q page frame x
+  unfolding transmitTake
+  take-of frame x h = ap (takeOf table window q page frame) h
+
+  module _ (size : length page ≡ 4096) where
+    pub look-halted : q .halted ≡ true → look table window q page ≡ stop 2
+    unfolding look
+    look-halted h = rw (eq-eqb (length page) 4096 size, h)
+
+    pub look-empty : q .halted ≡ false → posted page (q .consumed) ≡ 0 → look table window q page ≡ stop 4
+    unfolding look
+    look-empty h k = rw (eq-eqb (length page) 4096 size, h, k)
+
+    -- slots l are posted
+    pub look-some : q .halted ≡ false → (l : List Slot) → waitingSlots page (q .consumed) ≡ l → posted page (q .consumed) ≡ length l → 0 < length l → length l ≤ 256
+        → look table window q page ≡ onCut (divide l) (λ d e. ready e (take (d + e) l) (judge table window e (take (d + e) l))) (stop 6) (stop 5)
+    unfolding look
+    look-some h l w k some few = rw (eq-eqb (length page) 4096 size, h, le-ltb 256 (posted page (q .consumed)) (omega arith), ne-eqb (posted page (q .consumed)) 0 (omega arith), w)

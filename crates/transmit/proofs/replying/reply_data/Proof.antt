@@ -1,0 +1,38 @@
+use borrow.Author.Needs.{needs}
+use mathlib.Core.Path.{ap, _∙_}
+use mathlib.Core.List.{_++_}
+use Rattle.words.specs.Word.{splice, u16Bytes}
+use Rattle.ring.specs.Ring.{slotPlace}
+use Rattle.netif.specs.Slot.{ident, transmitReply}
+use Rattle.netif.specs.Decode.{dataOf}
+use Rattle.netif.specs.declared.DataSlot.{DataSlot}
+use Rattle.transmit.specs.Judge.{dataReply}
+use Rattle.transmit.proofs.replying.reply_data.Statement.{statement}
+use Rattle.transmit.proofs.replying.reply_data.Tie as tie
+use Rattle.transmit.proofs.replying.reply_data.Reads as reads
+use Rattle.transmit.proofs.replying.reply_data.Lts as lts
+use Rattle.netif.proofs.DataSlot.at.Reads as at-reads
+use Rattle.ring.proofs.reply.Reads as reply-reads
+
+-- src/replying.rt:19:9
+at-requires : tie.Need-at-requires
+at-requires c κs = search needs
+
+-- src/replying.rt:20:5
+reply-requires : tie.Need-reply-requires
+reply-requires c κs = search needs
+
+-- src/replying.rt:15:1
+same-length : tie.Need-same-length
+same-length c = search needs
+
+-- src/replying.rt:15:1
+returns : tie.Need-returns
+unfolding dataReply transmitReply dataOf
+returns c =
+    let a = c .before .before .before .before .before .before .before .args in
+    let s = c .before .before .before .before .at in
+    c .before .before .reply .ensures ∙ ap (λ (d : DataSlot). splice (a .ring .now) (slotPlace 12 256 (a .n)) (u16Bytes (d .id) ++ u16Bytes (a .status))) (s .ensures)
+
+pub reply-data-spec : {M : Type 1} → statement M
+reply-data-spec = tie.close (tie.spec at-requires reply-requires same-length returns)

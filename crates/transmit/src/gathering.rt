@@ -1,0 +1,38 @@
+// A packet's parts, copied from the window into the frame buffer as the tables say.
+ghost use mathlib.Core.Path.{_≡_};
+ghost use Prim.Native.Nat.{_+_, _*_, _≤_};
+ghost use lib.ListN.{length, take};
+ghost use Rattle.words.specs.Word.{splice};
+ghost use Rattle.grant.specs.Grant.{pagePart};
+ghost use Rattle.transmit.specs.Plan.{joined, InWindow};
+
+// Copies one part of a page to its position in the frame buffer.
+pub fn copy_part(window: &[u8], page: u32, offset: u16, size: u16, frame: &mut [u8], at: usize)
+    requires { ⌜ (4096 * page + 4096 ≤ length (now window)) × (offset + size ≤ 4096) × (at + size ≤ length (now frame)) ⌝ }
+    ensures { λ _. ⌜ now (frame .exit) ≡ splice (now (frame .entry)) at (pagePart (now (window .entry)) page offset size) ⌝ }
+{
+    let end = at + size as usize;
+    words::copy(grant::part(window, page, offset, size), &mut frame[at..end]);
+}
+
+// A 16-bit number as a position.
+fn wide(x: u16) -> usize
+    ensures { λ r. ⌜ r ≡ x ⌝ }
+{
+    x as usize
+}
+
+// Joins the parts that the first count places of the tables name at the front of the frame buffer.
+pub fn gather(window: &[u8], count: usize, pages: &[u32; 18], offsets: &[u16; 18], sizes: &[u16; 18], frame: &mut [u8])
+    requires { ⌜ (count ≤ 18) × (length (now pages) ≡ 18) × (length (now offsets) ≡ 18) × (length (now sizes) ≡ 18) × InWindow (now window) (now pages) (now offsets) (now sizes) count × (length (joined (now window) (take count (now pages)) (take count (now offsets)) (take count (now sizes))) ≤ length (now frame)) ⌝ }
+    ensures { λ _. ⌜ now (frame .exit) ≡ splice (now (frame .entry)) 0 (joined (now (window .entry)) (take count (now (pages .entry))) (take count (now (offsets .entry))) (take count (now (sizes .entry)))) ⌝ }
+{
+    let mut i: usize = 0;
+    let mut at: usize = 0;
+    while i < count {
+        let size = sizes[i];
+        copy_part(window, pages[i], offsets[i], size, frame, at);
+        at += wide(size);
+        i += 1;
+    }
+}

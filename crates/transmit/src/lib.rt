@@ -1,0 +1,3 @@
+// One transmit call.
+pub mod replying;
+pub mod gathering;
