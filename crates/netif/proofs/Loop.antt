@@ -92,20 +92,26 @@ pub sizes-snoc : (l : List Slot) (s : Slot) → sizes (l ++ (s ∷ [])) ≡ size
 sizes-snoc [] s = omega arith
 sizes-snoc (x ∷ l) s = rw (sizes-snoc l s) (omega arith)
 
-module _ (page : List ℕ) (first n i k v : ℕ) (here : n ≡ wadd first (i + k)) (is : v ≡ size (slotAt 12 256 page n)) where
-  size-here : v ≡ size (slotAt 12 256 page (first + i + k))
-  size-here = is ∙ ap size (this page first 0 n (i + k) here ∙ ap (slotAt 12 256 page) (sym (add-assoc first i k)))
+module _ (page : List ℕ) (first n i k : ℕ) (here : n ≡ wadd first (i + k)) where
+  slot-there : slotAt 12 256 page n ≡ slotAt 12 256 page (first + i + k)
+  slot-there = this page first 0 n (i + k) here ∙ ap (slotAt 12 256 page) (sym (add-assoc first i k))
 
-  pub sum-next : sizes (slotsFrom 12 256 page (first + i) k) + v ≡ sizes (slotsFrom 12 256 page (first + i) (k + 1))
-  sum-next = sym (ap sizes (slots-snoc 12 256 page k (first + i)) ∙ sizes-snoc (slotsFrom 12 256 page (first + i) k) (slotAt 12 256 page (first + i + k)) ∙ ap (sizes (slotsFrom 12 256 page (first + i) k) +_) (sym size-here))
+  pub sum-next : (v : ℕ) → v ≡ size (slotAt 12 256 page n) → sizes (slotsFrom 12 256 page (first + i) k) + v ≡ sizes (slotsFrom 12 256 page (first + i) (k + 1))
+  sum-next v h =
+      sym (ap sizes (slots-snoc 12 256 page k (first + i))
+      ∙ sizes-snoc (slotsFrom 12 256 page (first + i) k) (slotAt 12 256 page (first + i + k))
+      ∙ ap (sizes (slotsFrom 12 256 page (first + i) k) +_) (sym (h ∙ ap size slot-there)))
 
-  pub table-next : (t : List ℕ) → k + 1 < length t
-      → set (splice t 1 (map size (slotsFrom 12 256 page (first + i) k))) (k + 1) v ≡ splice t 1 (map size (slotsFrom 12 256 page (first + i) (k + 1)))
-  table-next t h =
-      let m : length (map size (slotsFrom 12 256 page (first + i) k)) ≡ k = length-map (slotsFrom 12 256 page (first + i) k) size ∙ slots-length 12 256 page k (first + i) in
-      splice-more t 1 (map size (slotsFrom 12 256 page (first + i) k)) v (k + 1) (omega arith) h
-      ∙ ap (splice t 1) (ap (λ (x : ℕ). map size (slotsFrom 12 256 page (first + i) k) ++ (x ∷ [])) size-here
-      ∙ sym (map-append size (slotsFrom 12 256 page (first + i) k) (slotAt 12 256 page (first + i + k) ∷ [])) ∙ sym (ap (map size) (slots-snoc 12 256 page k (first + i))))
+  -- a table that holds what f says of each slot, from the place 1 on: one slot more
+  pub column-next : (f : Slot → ℕ) (v : ℕ) → v ≡ f (slotAt 12 256 page n) → (t : List ℕ) → k + 1 < length t
+      → set (splice t 1 (map f (slotsFrom 12 256 page (first + i) k))) (k + 1) v ≡ splice t 1 (map f (slotsFrom 12 256 page (first + i) (k + 1)))
+  column-next f v h t few =
+      let m : length (map f (slotsFrom 12 256 page (first + i) k)) ≡ k = length-map (slotsFrom 12 256 page (first + i) k) f ∙ slots-length 12 256 page k (first + i) in
+      splice-more t 1 (map f (slotsFrom 12 256 page (first + i) k)) v (k + 1) (omega arith) few
+      ∙ ap (splice t 1)
+      (ap (λ (x : ℕ). map f (slotsFrom 12 256 page (first + i) k) ++ (x ∷ [])) (h ∙ ap f slot-there)
+      ∙ sym (map-append f (slotsFrom 12 256 page (first + i) k) (slotAt 12 256 page (first + i + k) ∷ []))
+      ∙ sym (ap (map f) (slots-snoc 12 256 page k (first + i))))
 
 -- ---- slots as the code holds them
 

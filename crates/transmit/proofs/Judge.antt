@@ -12,7 +12,7 @@ use Rattle.grant.specs.Grant.{inRange, fitTransmit}
 use Rattle.grant.proofs.Grant.{part-length}
 use Rattle.netif.specs.Packet.{firstOf, laterOf, sizes}
 use Rattle.netif.specs.Slot.{Slot, gref, offset, size}
-use Rattle.transmit.specs.Judge.{totalOf, ownPart, judgeSizes, judgeSlot, judgeLater, judge, partOf, laterParts, frameOf}
+use Rattle.transmit.specs.Judge.{totalOf, ownPart, judgeSizes, judgeSlot, judgeLater, judgeSlots, judge, partOf, laterParts, frameOf}
 use Rattle.netif.specs.declared.Verdict.{Verdict}
 use Rattle.netif.specs.declared.Verdict.the-variants.{Good, Bad}
 use Rattle.netif.specs.Verdict.{_orElse_, test}
@@ -39,12 +39,12 @@ module _ (table window : List ℕ) where
   -- a good packet, rule by rule
   pub good-parts : (e : ℕ) (p : List Slot) → judge table window e p ≡ Good
       → (judgeSizes (totalOf p) (sizes (laterOf e p)) ≡ Good) × (judgeSlot table window 0 (firstOf p) (ownPart e p) ≡ Good) × (judgeLater table window (suc e) (laterOf e p) ≡ Good)
-  unfolding judge
+  unfolding judge judgeSlots
   good-parts e p h =
       let a = orElse-good (judgeSizes (totalOf p) (sizes (laterOf e p))) _ h in
-      let b = orElse-good (judgeSlot table window 0 (firstOf p) (ownPart e p)) _ (a .1) in
-      let c = orElse-good (judgeLater table window (suc e) (laterOf e p)) _ (b .1) in
-      (a .0, b .0, c .0)
+      let b = orElse-good (judgeSlots table window e p) _ (a .1) in
+      let c = orElse-good (judgeSlot table window 0 (firstOf p) (ownPart e p)) _ (b .0) in
+      (a .0, c .0, c .1)
 
   -- its later sizes leave the first slot a part
   pub good-sizes : (e : ℕ) (p : List Slot) → judge table window e p ≡ Good → sizes (laterOf e p) ≤ totalOf p

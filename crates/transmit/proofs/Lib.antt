@@ -3,4 +3,5 @@ pub mod Judge
 pub mod Take
 pub mod Replies
 pub mod Joining
+pub mod Plans
 pub mod Demand3

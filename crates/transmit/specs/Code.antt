@@ -1,19 +1,21 @@
 -- What the code of a transmit call returns and leaves, by the definitions.
 use mathlib.Core.Path.{_≡_}
 use mathlib.Core.List.{List, map}
-use mathlib.Core.Bool.{Bool}
+use lib.ListN.{length, take}
 use Prim.Native.Nat.{ℕ, suc, _+_, _≤_, _<_}
-use lib.ListN.{length, drop}
 use Rattle.words.specs.Word.{splice}
-use Rattle.ring.specs.Ring.{wadd, notify, slotsFrom, withReplies}
-use Rattle.netif.specs.Slot.{Slot, slotWidth, slotCount, size}
-use Rattle.netif.specs.Packet.{laterOf}
+use Rattle.ring.specs.Ring.{slotsFrom, withReplies}
+use Rattle.netif.specs.Slot.{Slot, slotWidth, slotCount, size, offset}
 use Rattle.netif.specs.Front.{outlineOf}
-use Rattle.netif.specs.Report.{reportOf, goOn}
+use Rattle.netif.specs.Report.{reportOf}
 use Rattle.netif.specs.declared.Queue.{Queue}
 use Rattle.netif.specs.declared.Outcome.{Outcome as Returned}
 use Rattle.netif.specs.declared.divider.Outline.{Outline}
-use Rattle.transmit.specs.Take.{Outcome, repliedPage}
+use Rattle.netif.specs.declared.Verdict.{Verdict}
+use Rattle.netif.specs.declared.Verdict.the-variants.{Good}
+use Rattle.transmit.specs.Judge.{parts, judgeLater}
+use Rattle.transmit.specs.Take.{Outcome}
+use Rattle.transmit.specs.Plan.{datasOf, slotPage}
 
 -- a call returned r and left the page and the frame buffer so: the outcome o
 pub record Gives (o : Outcome) (r : Returned) (ring buffer : List ℕ) : Type 0 where
@@ -36,3 +38,23 @@ pub record Ready (page : List ℕ) (c : ℕ) (o : Outline) : Type 0 where
 -- the page where the k slots from slot n on got the replies that f gives them
 unfoldable pub repliedBy : (Slot → List ℕ) → List ℕ → (n k : ℕ) → List ℕ
 repliedBy f page n k = withReplies slotWidth slotCount page n (map f (slotsFrom slotWidth slotCount page n k))
+
+-- the later data slots of the packet at counter c, so many behind so many extras
+abbrev pub laterAt : List ℕ → (c extras later : ℕ) → List Slot
+laterAt page c extras later = slotsFrom slotWidth slotCount page (c + (extras + 1)) later
+
+-- the later data slots were judged: where they are good, their pages and offsets are in the tables from the place 1 on
+pub record LaterJudged (table window page : List ℕ) (c extras later : ℕ) (pages₀ offsets₀ pages offsets : List ℕ) (r : Verdict) : Type 0 where
+  pub verdict : r ≡ judgeLater table window (suc extras) (laterAt page c extras later)
+  pub pagesAre : r ≡ Good → pages ≡ splice pages₀ 1 (map (slotPage table) (laterAt page c extras later))
+  pub offsetsAre : r ≡ Good → offsets ≡ splice offsets₀ 1 (map offset (laterAt page c extras later))
+
+-- the verdict v on the packet p with e extras; where it is good, the tables hold its data slots' pages and offsets
+pub record Judged (table : List ℕ) (e : ℕ) (p : List Slot) (v : Verdict) (pages offsets : List ℕ) (r : Verdict) : Type 0 where
+  pub verdict : r ≡ v
+  pub pagesAre : r ≡ Good → take (length (datasOf e p)) pages ≡ map (slotPage table) (datasOf e p)
+  pub offsetsAre : r ≡ Good → take (length (datasOf e p)) offsets ≡ map offset (datasOf e p)
+
+-- the table holds the packet's parts
+unfoldable pub HoldsParts : (sizes : List ℕ) (e : ℕ) (p : List Slot) → Type 0
+HoldsParts sizes e p = take (length (datasOf e p)) sizes ≡ parts e p

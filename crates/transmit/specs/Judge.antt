@@ -44,11 +44,14 @@ module _ (table window : List ℕ) where
   judgeLater k [] = Good
   judgeLater k (s ∷ l) = judgeSlot k s (size s) orElse judgeLater (suc k) l
 
+  -- causes 4 and 5 of all data slots
+  unfoldable pub judgeSlots : ℕ → List Slot → Verdict
+  judgeSlots e p = judgeSlot 0 (firstOf p) (ownPart e p) orElse judgeLater (suc e) (laterOf e p)
+
   unfoldable pub judge : ℕ → List Slot → Verdict
   judge e p =
       judgeSizes (totalOf p) (sizes (laterOf e p))
-      orElse judgeSlot 0 (firstOf p) (ownPart e p)
-      orElse judgeLater (suc e) (laterOf e p)
+      orElse judgeSlots e p
       orElse judgeGso e (gsoSizeOf e p) (gsoTypeOf e p)
 
   -- the frame: the parts joined

@@ -1,14 +1,12 @@
 -- The plan of a packet's parts that judging makes and gathering carries out: for each data slot its page, its offset there and the
 -- part's size, in three tables.
 use mathlib.Core.Path.{_≡_}
-use mathlib.Core.List.{List, [], _∷_, _++_, map}
-use Prim.Native.Nat.{ℕ, suc, _+_, _*_, _≤_, _<_}
-use lib.ListN.{length, take, getD}
-use Rattle.words.specs.Word.{splice}
+use mathlib.Core.List.{List, [], _∷_, _++_}
+use Prim.Native.Nat.{ℕ, _+_, _*_, _≤_, _<_}
+use lib.ListN.{length, getD}
 use Rattle.grant.specs.Grant.{pageOf, pagePart}
-use Rattle.netif.specs.Slot.{Slot, gref, offset}
+use Rattle.netif.specs.Slot.{Slot, gref, offset, size}
 use Rattle.netif.specs.Packet.{firstOf, laterOf}
-use Rattle.transmit.specs.Judge.{parts}
 
 -- the parts of the window that the tables name, joined
 abbrev pub joined : (window pages offsets sizes : List ℕ) → List ℕ
@@ -30,8 +28,6 @@ datasOf e p = firstOf p ∷ laterOf e p
 unfoldable pub slotPage : List ℕ → Slot → ℕ
 slotPage table s = pageOf table (gref s)
 
--- the tables hold the plan of the packet p with e extras, over what they held
-pub record Planned (table : List ℕ) (e : ℕ) (p : List Slot) (pages₀ offsets₀ sizes₀ pages offsets sizes : List ℕ) : Type 0 where
-  pub pagesAre : pages ≡ splice pages₀ 0 (map (slotPage table) (datasOf e p))
-  pub offsetsAre : offsets ≡ splice offsets₀ 0 (map offset (datasOf e p))
-  pub sizesAre : sizes ≡ splice sizes₀ 0 (parts e p)
+-- the table holds the later slots' sizes, from the place 1 on
+unfoldable pub SizesOf : (sizes : List ℕ) (later : List Slot) → Type 0
+SizesOf sizes later = (j : ℕ) → j < length later → getD sizes (j + 1) 0 ≡ size (getD later j [])

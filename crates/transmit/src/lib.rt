@@ -1,3 +1,4 @@
 // One transmit call.
 pub mod replying;
 pub mod gathering;
+pub mod judging;

@@ -17,7 +17,7 @@ use Rattle.netif.specs.Divide.{scan}
 use Rattle.netif.specs.Packet.{sizes as sizesOf}
 use Rattle.netif.specs.Front.{behind}
 use Rattle.netif.proofs.Within.{within-datas}
-use Rattle.netif.proofs.Loop.{data-closed, data-end, data-bad, data-next, nothing-owed, behind-none, behind-more, sum-next, table-next, more-bit, follows-bit, size-field}
+use Rattle.netif.proofs.Loop.{data-closed, data-end, data-bad, data-next, nothing-owed, behind-none, behind-more, sum-next, column-next, more-bit, follows-bit, size-field}
 use Rattle.netif.proofs.divider.read_later.Statement.{statement}
 use Rattle.netif.proofs.divider.read_later.Tie as tie
 use Rattle.netif.proofs.divider.read_later.Reads as reads
@@ -187,8 +187,8 @@ loop-again c =
           ∙ ap (scan (behind (a .page .now) (a .first) (a .posted) (l .count + 1 + 1 + a .extras)) (l .count + 1 + 1) (a .extras) false) (sym (c .more-data .ensures ∙ more-bit _ (r .result) (r .ensures))),
       omega arith,
       w,
-      ap (_+ r .result .size) (l .inv .3) ∙ sum-next (a .page .now) (a .first) (n .result) (a .extras + 1) (l .count) (r .result .size) (rw here at (n .ensures)) (size-field _ (r .result) (r .ensures)),
-      ap (λ t. set t (l .count + 1) (r .result .size)) (l .inv .4) ∙ table-next (a .page .now) (a .first) (n .result) (a .extras + 1) (l .count) (r .result .size) (rw here at (n .ensures)) (size-field _ (r .result) (r .ensures)) _ (omega (arith, within-datas (l .count + 1 + 1) (a .extras) w)),
+      ap (_+ r .result .size) (l .inv .3) ∙ sum-next (a .page .now) (a .first) (n .result) (a .extras + 1) (l .count) (rw here at (n .ensures)) (r .result .size) (size-field _ (r .result) (r .ensures)),
+      ap (λ t. set t (l .count + 1) (r .result .size)) (l .inv .4) ∙ column-next (a .page .now) (a .first) (n .result) (a .extras + 1) (l .count) (rw here at (n .ensures)) size (r .result .size) (size-field _ (r .result) (r .ensures)) _ (omega (arith, within-datas (l .count + 1 + 1) (a .extras) w)),
       omega arith,
       simp length-set (omega arith),
     )
