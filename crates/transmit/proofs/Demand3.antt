@@ -28,7 +28,7 @@ use Rattle.ring.proofs.Standing.{EachBytes, Stands, stands-none, stands-posted,
 use Rattle.netif.proofs.Grammar.{packet-length, packet-some, divide-whole}
 use Rattle.netif.proofs.Service.{Reads, Case, reads-fresh, reads-publish, reads-again, reads-empty, reads-waiting, reads-wrong, reads-took, reads-serves}
 use Rattle.transmit.proofs.Judge.{total-small}
-use Rattle.transmit.proofs.Take.{asking-length, asking-requests, asking-slot, replied-length, replied-requests, replied-slot, take-of, look-halted, look-empty, look-some}
+use Rattle.transmit.proofs.Cases.{asking-length, asking-requests, asking-slot, replied-length, replied-requests, replied-slot, take-of, look-halted, look-empty, look-some}
 
 abbrev pub turn : wrap % 256 ≡ 0
 turn = refl

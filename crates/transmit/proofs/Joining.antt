@@ -48,7 +48,7 @@ joined-grows window (suc i) (suc n) (p ∷ ps) (o ∷ os) (s ∷ ss) h =
     omega (arith, joined-grows window i n ps os ss (omega arith), length-append (pagePart window p o s) (joined window (take i ps) (take i os) (take i ss)), length-append (pagePart window p o s) (joined window (take n ps) (take n os) (take n ss)))
 
 -- the turn of the loop that copies part i behind the parts before it
-module _ (window pages offsets sizes frame₀ : List ℕ) (count : ℕ) (few : count ≤ 18) (p : length pages ≡ 18) (o : length offsets ≡ 18) (s : length sizes ≡ 18)
+module _ (window pages offsets sizes frame₀ : List ℕ) (count : ℕ) (p : count ≤ length pages) (o : count ≤ length offsets) (s : count ≤ length sizes)
     (inside : InWindow window pages offsets sizes count) (room : length (joined window (take count pages) (take count offsets) (take count sizes)) ≤ length frame₀)
     (i : ℕ) (k : i < count) where
   pub next-length : length (joined window (take i pages) (take i offsets) (take i sizes)) + getD sizes i 0 ≡ length (joined window (take (i + 1) pages) (take (i + 1) offsets) (take (i + 1) sizes))

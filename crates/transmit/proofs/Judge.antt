@@ -20,11 +20,11 @@ use Rattle.words.proofs.Word.{u16-small}
 
 -- ---- judging
 
-orElse-good : (v u : Verdict) → v orElse u ≡ Good → (v ≡ Good) × (u ≡ Good)
+pub orElse-good : (v u : Verdict) → v orElse u ≡ Good → (v ≡ Good) × (u ≡ Good)
 orElse-good Good u h = (refl, h)
 orElse-good (Bad c k) u h = absurd (let z : _≡_ {A = ℕ} 0 1 = cc in omega arith)
 
-test-good : (b : Bool) (c k : ℕ) → test b c k ≡ Good → b ≡ false
+pub test-good : (b : Bool) (c k : ℕ) → test b c k ≡ Good → b ≡ false
 test-good true c k h = absurd (let z : _≡_ {A = ℕ} 0 1 = cc in omega arith)
 test-good false c k h = refl
 

@@ -1,7 +1,8 @@
 -- The laws of the definitions.
 pub mod Judge
-pub mod Take
+pub mod Cases
 pub mod Replies
 pub mod Joining
 pub mod Plans
+pub mod Settling
 pub mod Demand3

@@ -9,7 +9,7 @@ use native.Mathlib.Nat.{add-assoc}
 use native.Mathlib.Numerals.{add-one}
 use lib.ListN.{length, take, drop, getD, set, length-map}
 use lib.Seq.{getD-take, take-at}
-use Rattle.words.specs.Word.{splice}
+use Rattle.words.specs.Word.{splice, bit}
 use borrow.Author.Tests.{eq-eqb, ne-eqb}
 use Rattle.ring.specs.Ring.{wadd, slotAt, slotsFrom}
 use Rattle.ring.proofs.Ring.{slot-wrap, slots-at, slots-length, slots-drop}
@@ -17,7 +17,7 @@ use Rattle.grant.specs.Grant.{inRange, fitTransmit, pageOf}
 use Rattle.grant.specs.Found.{sourceOf}
 use Rattle.grant.specs.declared.Source.{Source}
 use Rattle.grant.specs.declared.Source.the-variants as source
-use Rattle.netif.specs.Slot.{Slot, gref, offset, size}
+use Rattle.netif.specs.Slot.{Slot, gref, offset, size, checksumBlank, dataValidated}
 use Rattle.netif.specs.Decode.{dataOf}
 use Rattle.netif.specs.Packet.{firstOf, laterOf, sizes, gsoSizeOf, gsoTypeOf}
 use Rattle.netif.specs.Front.{outlineOf}
@@ -181,6 +181,14 @@ module _ (o : Outline) (e : ℕ) (p : List Slot) (h : o ≡ outlineOf e p) where
   pub head-offset : o .head .offset ≡ offset (firstOf p)
   unfolding outlineOf dataOf
   head-offset = ap (λ (x : Outline). x .head .offset) h
+
+  pub blank-of : bit 0 (o .head .flags) ≡ checksumBlank (firstOf p)
+  unfolding outlineOf dataOf checksumBlank
+  blank-of = ap (λ (x : Outline). bit 0 (x .head .flags)) h
+
+  pub validated-of : bit 1 (o .head .flags) ≡ dataValidated (firstOf p)
+  unfolding outlineOf dataOf dataValidated
+  validated-of = ap (λ (x : Outline). bit 1 (x .head .flags)) h
 
   pub sum-of : o .later ≡ sizes (laterOf e p)
   unfolding outlineOf

@@ -14,7 +14,7 @@ use Rattle.netif.specs.Slot.{Slot}
 use Rattle.transmit.specs.Judge.{dataReply, extraReply, repliesOf}
 use Rattle.transmit.specs.Take.{repliesTo}
 use Rattle.transmit.specs.Code.{repliedBy}
-use Rattle.transmit.proofs.Take.{short-map, data-short, extra-short}
+use Rattle.transmit.proofs.Cases.{short-map, data-short, extra-short}
 
 -- ---- a run of replies, each made by f of its slot
 

@@ -4,7 +4,7 @@ use mathlib.Core.List.{List, map}
 use lib.ListN.{length, take}
 use Prim.Native.Nat.{ℕ, suc, _+_, _≤_, _<_}
 use Rattle.words.specs.Word.{splice}
-use Rattle.ring.specs.Ring.{slotsFrom, withReplies}
+use Rattle.ring.specs.Ring.{wadd, notify, slotsFrom, withReplies}
 use Rattle.netif.specs.Slot.{Slot, slotWidth, slotCount, size, offset}
 use Rattle.netif.specs.Front.{outlineOf}
 use Rattle.netif.specs.Report.{reportOf}
@@ -14,7 +14,8 @@ use Rattle.netif.specs.declared.divider.Outline.{Outline}
 use Rattle.netif.specs.declared.Verdict.{Verdict}
 use Rattle.netif.specs.declared.Verdict.the-variants.{Good}
 use Rattle.transmit.specs.Judge.{parts, judgeLater}
-use Rattle.transmit.specs.Take.{Outcome}
+use Rattle.transmit.specs.Take.{Outcome, repliedPage}
+use Rattle.transmit.specs.declared.Consumed.{Consumed}
 use Rattle.transmit.specs.Plan.{datasOf, slotPage}
 
 -- a call returned r and left the page and the frame buffer so: the outcome o
@@ -23,6 +24,12 @@ pub record Gives (o : Outcome) (r : Returned) (ring buffer : List ℕ) : Type 0 
   pub queue : r .queue ≡ o .queue
   pub page : ring ≡ o .page
   pub frame : buffer ≡ o .frame
+
+-- slots from counter old on were replied to and published
+pub record ConsumedAs (page : List ℕ) (old slots extras status : ℕ) (after : List ℕ) (r : Consumed) : Type 0 where
+  pub counterIs : r .counter ≡ wadd old slots
+  pub notifyIs : r .notify ≡ notify page old (wadd old slots)
+  pub pageIs : after ≡ repliedPage page old slots extras status
 
 -- the slots of the packet at counter c that has this outline
 abbrev pub packetAt : List ℕ → ℕ → Outline → List Slot

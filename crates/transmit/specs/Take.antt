@@ -87,6 +87,14 @@ module _ (table window : List ℕ) where
   takePacket q page frame e p Good =
       cond (ltb (length frame) (totalOf p)) (refusal 8 q page frame) (handedOver (q .consumed) page frame e p)
 
+  -- what stands at the front of the slots posted, if some are
+  abbrev pub lookFront : Queue → List ℕ → Look
+  lookFront q page =
+      onCut (divide (waitingSlots page (q .consumed)))
+      (λ d e. ready e (take (d + e) (waitingSlots page (q .consumed))) (judge table window e (take (d + e) (waitingSlots page (q .consumed)))))
+      (stop 6)
+      (stop 5)
+
   -- what stands at the counter, in the order of the answers
   unfoldable pub look : Queue → List ℕ → Look
   look q page =
@@ -94,10 +102,7 @@ module _ (table window : List ℕ) where
       (cond (q .halted) (stop 2)
       (cond (ltb slotCount (posted page (q .consumed))) (stop 3)
       (cond (eqb (posted page (q .consumed)) 0) (stop 4)
-      (onCut (divide (waitingSlots page (q .consumed)))
-      (λ d e. ready e (take (d + e) (waitingSlots page (q .consumed))) (judge table window e (take (d + e) (waitingSlots page (q .consumed)))))
-      (stop 6)
-      (stop 5)))))
+      (lookFront q page))))
 
   -- and what the call makes of it
   abbrev pub takeOf : Queue → List ℕ → List ℕ → Look → Outcome
@@ -106,3 +111,7 @@ module _ (table window : List ℕ) where
 
   unfoldable pub transmitTake : Queue → List ℕ → List ℕ → Outcome
   transmitTake q page frame = takeOf q page frame (look q page)
+
+  -- the same where slots are posted
+  unfoldable pub takeFront : Queue → List ℕ → List ℕ → Outcome
+  takeFront q page frame = takeOf q page frame (lookFront q page)

@@ -23,8 +23,15 @@ fn wide(x: u16) -> usize
 }
 
 // Joins the parts that the first count places of the tables name at the front of the frame buffer.
-pub fn gather(window: &[u8], count: usize, pages: &[u32; 18], offsets: &[u16; 18], sizes: &[u16; 18], frame: &mut [u8])
-    requires { ⌜ (count ≤ 18) × (length (now pages) ≡ 18) × (length (now offsets) ≡ 18) × (length (now sizes) ≡ 18) × InWindow (now window) (now pages) (now offsets) (now sizes) count × (length (joined (now window) (take count (now pages)) (take count (now offsets)) (take count (now sizes))) ≤ length (now frame)) ⌝ }
+pub fn gather(
+    window: &[u8],
+    count: usize,
+    pages: &[u32; 18],
+    offsets: &[u16; 18],
+    sizes: &[u16; 18],
+    frame: &mut [u8],
+)
+    requires { ⌜ (count ≤ 18) × (count ≤ length (now pages)) × (count ≤ length (now offsets)) × (count ≤ length (now sizes)) × InWindow (now window) (now pages) (now offsets) (now sizes) count × (length (joined (now window) (take count (now pages)) (take count (now offsets)) (take count (now sizes))) ≤ length (now frame)) ⌝ }
     ensures { λ _. ⌜ now (frame .exit) ≡ splice (now (frame .entry)) 0 (joined (now (window .entry)) (take count (now (pages .entry))) (take count (now (offsets .entry))) (take count (now (sizes .entry)))) ⌝ }
 {
     let mut i: usize = 0;

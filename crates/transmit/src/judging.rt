@@ -35,7 +35,10 @@ pub fn judge_gso(extras: u32, gso_size: u16, gso_type: u8) -> Verdict
         return Verdict::Good;
     }
     if gso_size == 0 {
-        return Verdict::Bad { cause: 6, place: extras };
+        return Verdict::Bad {
+            cause: 6,
+            place: extras,
+        };
     }
     if gso_type == 1 {
         return Verdict::Good;
@@ -43,14 +46,21 @@ pub fn judge_gso(extras: u32, gso_size: u16, gso_type: u8) -> Verdict
     if gso_type == 2 {
         return Verdict::Good;
     }
-    Verdict::Bad { cause: 6, place: extras }
+    Verdict::Bad {
+        cause: 6,
+        place: extras,
+    }
 }
 
 // The part that the later sizes leave to the first slot.
 pub fn own_part(total: u16, later: u32) -> u16
     ensures { λ r. ⌜ r ≡ total - later ⌝ }
 {
-    if later <= total as u32 { (total as u32 - later) as u16 } else { 0 }
+    if later <= total as u32 {
+        (total as u32 - later) as u16
+    } else {
+        0
+    }
 }
 
 // Causes 4 and 5 of the later data slots, slot by slot. What decides an access of the window is read once and goes into the tables.
@@ -74,10 +84,16 @@ fn judge_later(
         let at = (i + 1) as usize;
         match grant::lookup(grants, window, slot.gref, slot.offset, sizes[at]) {
             Source::Unfit => {
-                return Verdict::Bad { cause: 4, place: extras + 1 + i };
+                return Verdict::Bad {
+                    cause: 4,
+                    place: extras + 1 + i,
+                };
             }
             Source::Outside => {
-                return Verdict::Bad { cause: 5, place: extras + 1 + i };
+                return Verdict::Bad {
+                    cause: 5,
+                    place: extras + 1 + i,
+                };
             }
             Source::At(page) => {
                 pages[at] = page;
@@ -111,7 +127,17 @@ fn judge_slots(
             pages[0] = page;
             offsets[0] = head.offset;
             let later = o.slots - 1 - o.extras;
-            judge_later(ring, first, o.extras, later, sizes, pages, offsets, grants, window)
+            judge_later(
+                ring,
+                first,
+                o.extras,
+                later,
+                sizes,
+                pages,
+                offsets,
+                grants,
+                window,
+            )
         }
     }
 }

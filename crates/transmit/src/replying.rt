@@ -27,7 +27,14 @@ fn reply_extras(ring: &mut [u8], first: u32, extras: u32)
 {
     let mut i: u32 = 0;
     while i < extras {
-        ring::reply(ring, Extra::WIDTH, Extra::COUNT, ring::ahead(first, 1 + i), 0, 1);
+        ring::reply(
+            ring,
+            Extra::WIDTH,
+            Extra::COUNT,
+            ring::ahead(first, 1 + i),
+            0,
+            1,
+        );
         i += 1;
     }
 }

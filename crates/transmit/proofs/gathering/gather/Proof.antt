@@ -64,7 +64,7 @@ copy-part-requires c κs =
     let p = c .before .before .before .before .before .before .before .before .pre in
     let l = c .before .before .before .before .before .loop in
     let k : l .i < a .count = omega arith in
-    (p .4 (l .i) k .0, p .4 (l .i) k .1, omega (arith, l .inv .1, l .inv .3, next-room (a .window .now) (a .pages .now) (a .offsets .now) (a .sizes .now) (a .frame .now) (a .count) (p .0) (p .1) (p .2) (p .3) (p .4) (p .5) (l .i) k))
+    (p .4 (l .i) k .0, p .4 (l .i) k .1, omega (arith, l .inv .1, l .inv .3, next-room (a .window .now) (a .pages .now) (a .offsets .now) (a .sizes .now) (a .frame .now) (a .count) (p .1) (p .2) (p .3) (p .4) (p .5) (l .i) k))
 
 -- src/gathering.rt:35:15
 wide-requires : tie.Need-wide-requires Inv-loop μ-loop
@@ -78,7 +78,7 @@ add-at c =
     let l = c .before .before .before .before .before .before .before .before .before .loop in
     let k : l .i < a .count = omega arith in
     let size : length (a .frame .now) < 2 ^ 64 = search needs in
-    record { fits = omega (arith, c .wide .ensures, l .inv .1, next-room (a .window .now) (a .pages .now) (a .offsets .now) (a .sizes .now) (a .frame .now) (a .count) (p .0) (p .1) (p .2) (p .3) (p .4) (p .5) (l .i) k) }
+    record { fits = omega (arith, c .wide .ensures, l .inv .1, next-room (a .window .now) (a .pages .now) (a .offsets .now) (a .sizes .now) (a .frame .now) (a .count) (p .1) (p .2) (p .3) (p .4) (p .5) (l .i) k) }
 
 -- src/gathering.rt:36:9
 add-i : tie.Need-add-i Inv-loop μ-loop
@@ -95,13 +95,12 @@ loop-again c =
     let p = c .before .before .before .before .before .before .before .before .before .before .before .before .pre in
     let l = c .before .before .before .before .before .before .before .before .before .loop in
     let k : l .i < a .count = omega arith in
-    let e = c .before .before .before .copy-part .ensures ∙ next-frame (a .window .now) (a .pages .now) (a .offsets .now) (a .sizes .now) (a .frame .now) (a .count) (p .0) (p .1) (p .2) (p .3) (p .4) (p .5) (l .i) k (l .frame) (l .at) (l .inv .1) (l .inv .2) in
-    let n = next-length (a .window .now) (a .pages .now) (a .offsets .now) (a .sizes .now) (a .frame .now) (a .count) (p .0) (p .1) (p .2) (p .3) (p .4) (p .5) (l .i) k in
-    (
+    let e = c .before .before .before .copy-part .ensures ∙ next-frame (a .window .now) (a .pages .now) (a .offsets .now) (a .sizes .now) (a .frame .now) (a .count) (p .1) (p .2) (p .3) (p .4) (p .5) (l .i) k (l .frame) (l .at) (l .inv .1) (l .inv .2) in
+    let n = next-length (a .window .now) (a .pages .now) (a .offsets .now) (a .sizes .now) (a .frame .now) (a .count) (p .1) (p .2) (p .3) (p .4) (p .5) (l .i) k in (
       omega arith,
       omega (arith, c .wide .ensures, l .inv .1, n),
       e,
-      ap length e ∙ splice-length (a .frame .now) 0 _ (omega (arith, n, next-room (a .window .now) (a .pages .now) (a .offsets .now) (a .sizes .now) (a .frame .now) (a .count) (p .0) (p .1) (p .2) (p .3) (p .4) (p .5) (l .i) k)),
+      ap length e ∙ splice-length (a .frame .now) 0 _ (omega (arith, n, next-room (a .window .now) (a .pages .now) (a .offsets .now) (a .sizes .now) (a .frame .now) (a .count) (p .1) (p .2) (p .3) (p .4) (p .5) (l .i) k)),
     )
 
 -- src/gathering.rt:26:1

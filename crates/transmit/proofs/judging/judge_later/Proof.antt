@@ -39,8 +39,7 @@ abbrev μ-loop : tie.MeasureT-loop
 loop-holds : tie.Need-loop-holds Inv-loop μ-loop
 loop-holds c =
     let a = c .before .before .before .args in
-    let z : a .later - 0 ≡ a .later = omega arith in
-    (
+    let z : a .later - 0 ≡ a .later = omega arith in (
       omega arith,
       rw (add-zero (suc (a .extras)), add-zero (a .first + (a .extras + 1)), z),
       sym (splice-none _ 1),
@@ -174,8 +173,7 @@ loop-again c =
     let s = c .before .before .before .before .before .at in
     let r = c .before .before .before .lookup in
     let k : l .i < a .later = omega arith in
-    let q = c .before .page .given in
-    (
+    let q = c .before .page .given in (
       omega arith,
       l .inv .1 ∙ turn-good (a .grants .now) (a .window .now) (a .ring .now) (a .first) (a .extras) (a .later) (l .i) k (a .sizes .now) (c .before .before .before .before .before .before .before .before .before .before .before .before .pre .3) (n .result) (n .ensures) (s .result) (s .ensures) (r .result) (r .ensures) (q .0 .0) (q .1),
       ap (λ t. set t (l .i + 1) (q .0 .0)) (l .inv .2)

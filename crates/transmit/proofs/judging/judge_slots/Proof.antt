@@ -67,8 +67,7 @@ judge-later-requires c κs =
     let ps = packetAt (a .ring .now) (a .first) (a .o) in
     let r = c .before .before .before .before .before .before .before .lookup in
     let found = r .ensures ∙ source-of-slot (a .grants .now) (a .window .now) (firstOf ps) (a .o .head) _ (ownPart e ps) (head-of (a .o) e ps (p .1 .outline)) (own-held (a .sizes .now) e ps (p .2)) in
-    let n = a .o .slots in
-    (
+    let n = a .o .slots in (
       p .0,
       omega (arith, p .1 .some, p .1 .few),
       omega (arith, p .1 .some, p .1 .datas),

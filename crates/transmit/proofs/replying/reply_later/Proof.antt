@@ -7,7 +7,7 @@ use borrow.Author.Needs.{needs}
 use Rattle.netif.specs.Slot.{transmitReply}
 use Rattle.transmit.specs.Judge.{dataReply, extraReply}
 use Rattle.transmit.specs.Code.{repliedBy}
-use Rattle.transmit.proofs.Take.{data-short, extra-short}
+use Rattle.transmit.proofs.Cases.{data-short, extra-short}
 use Rattle.transmit.proofs.Replies.{by-none, by-length, by-more}
 use Rattle.transmit.proofs.replying.reply_later.Statement.{statement}
 use Rattle.transmit.proofs.replying.reply_later.Tie as tie

@@ -5,15 +5,16 @@ use mathlib.Core.Bool.{true, false}
 use Prim.Native.Nat.{ℕ, suc, _+_, _≤_, _<_}
 use native.Mathlib.Omega.{arith}
 use lib.ListN.{length, take, getD, length-append, length-take, length-drop, length-map}
-use borrow.Author.Tests.{eq-eqb, ne-eqb, le-ltb}
+use lib.Dec.{eqb}
+use borrow.Author.Tests.{eq-eqb, ne-eqb, lt-ltb, le-ltb}
 use Rattle.words.specs.Word.{u16Bytes, u32Bytes}
 use Rattle.ring.specs.Ring.{wadd, reqProd, posted, asking, withReqEvent, withRspProd, slotAt, slotsFrom, withReplies}
 use Rattle.netif.specs.Slot.{Slot, slotWidth, slotCount, transmitReply}
-use Rattle.netif.specs.Divide.{divide, onCut}
+use Rattle.netif.specs.Divide.{whole, beginning, misshapen, divide, onCut}
 use Rattle.netif.specs.declared.Queue.{Queue}
 use Rattle.transmit.specs.Judge.{judge, dataReply, extraReply, repliesOf}
 use Rattle.netif.specs.Packet.{firstOf, extrasOf, laterOf}
-use Rattle.transmit.specs.Take.{waitingSlots, repliesTo, repliedPage, Look, stop, ready, look, takeOf, transmitTake}
+use Rattle.transmit.specs.Take.{refusal, takePacket, waitingSlots, repliesTo, repliedPage, Look, stop, ready, lookFront, look, takeOf, transmitTake, takeFront}
 use Rattle.words.proofs.Word.{splice-length, splice-before, u32-same}
 use Rattle.ring.proofs.Ring.{Short, slots-length, replies-length, replies-header, replies-slot, header-slot}
 
@@ -123,7 +124,23 @@ module _ (table window : List ℕ) (q : Queue) (page : List ℕ) where
   unfolding transmitTake
   take-of frame x h = ap (takeOf table window q page frame) h
 
+  pub look-bad : eqb (length page) 4096 ≡ false → look table window q page ≡ stop 1
+  unfolding look
+  look-bad h = rw h
+
   module _ (size : length page ≡ 4096) where
+    pub look-over : q .halted ≡ false → 256 < posted page (q .consumed) → look table window q page ≡ stop 3
+    unfolding look
+    look-over h k = rw (eq-eqb (length page) 4096 size, h, lt-ltb 256 (posted page (q .consumed)) k)
+
+    pub look-front : q .halted ≡ false → posted page (q .consumed) ≤ 256 → (posted page (q .consumed) ≡ 0 → ⊥) → look table window q page ≡ lookFront table window q page
+    unfolding look
+    look-front h k n = rw (eq-eqb (length page) 4096 size, h, le-ltb 256 (posted page (q .consumed)) k, ne-eqb (posted page (q .consumed)) 0 n)
+
+    pub take-some : (frame : List ℕ) → q .halted ≡ false → posted page (q .consumed) ≤ 256 → (posted page (q .consumed) ≡ 0 → ⊥) → transmitTake table window q page frame ≡ takeFront table window q page frame
+    unfolding takeFront
+    take-some frame h k n = take-of frame (lookFront table window q page) (look-front h k n)
+
     pub look-halted : q .halted ≡ true → look table window q page ≡ stop 2
     unfolding look
     look-halted h = rw (eq-eqb (length page) 4096 size, h)
@@ -137,3 +154,21 @@ module _ (table window : List ℕ) (q : Queue) (page : List ℕ) where
         → look table window q page ≡ onCut (divide l) (λ d e. ready e (take (d + e) l) (judge table window e (take (d + e) l))) (stop 6) (stop 5)
     unfolding look
     look-some h l w k some few = rw (eq-eqb (length page) 4096 size, h, le-ltb 256 (posted page (q .consumed)) (omega arith), ne-eqb (posted page (q .consumed)) 0 (omega arith), w)
+
+pub waiting-slots : (page : List ℕ) (c n : ℕ) → n ≡ posted page c → waitingSlots page c ≡ slotsFrom slotWidth slotCount page c n
+unfolding waitingSlots
+waiting-slots page c n h = rw h
+
+-- slots l are posted: by their cut
+module _ (table window : List ℕ) (q : Queue) (page frame : List ℕ) (l : List Slot) (slots : waitingSlots page (q .consumed) ≡ l) where
+  pub front-stops : divide l ≡ beginning → takeFront table window q page frame ≡ refusal 6 q page frame
+  unfolding takeFront
+  front-stops h = rw (slots, h)
+
+  pub front-wrong : divide l ≡ misshapen → takeFront table window q page frame ≡ refusal 5 q page frame
+  unfolding takeFront
+  front-wrong h = rw (slots, h)
+
+  pub front-packet : (d e : ℕ) → divide l ≡ whole d e → takeFront table window q page frame ≡ takePacket table window q page frame e (take (d + e) l) (judge table window e (take (d + e) l))
+  unfolding takeFront
+  front-packet d e h = rw (slots, h)

@@ -1,0 +1,52 @@
+use mathlib.Core.Path.{ap, _∙_}
+use Rattle.ring.specs.Ring.{withRspProd, notify}
+use Rattle.transmit.specs.Take.{repliesTo, repliedPage}
+use Rattle.transmit.proofs.Settling.{notify-stays}
+use borrow.Author.Needs.{needs}
+use Rattle.transmit.proofs.consume.Statement.{statement}
+use Rattle.transmit.proofs.consume.Tie as tie
+use Rattle.transmit.proofs.consume.Reads as reads
+use Rattle.transmit.proofs.consume.Lts as lts
+use Rattle.ring.proofs.ahead.Reads as ahead-reads
+use Rattle.ring.proofs.notify.Reads as notify-reads
+use Rattle.ring.proofs.publish.Reads as publish-reads
+use Rattle.transmit.proofs.replying.reply.Reads as reply-reads
+
+-- src/lib.rt:39:9
+ahead-requires : tie.Need-ahead-requires
+ahead-requires c κs = search needs
+
+-- src/lib.rt:40:5
+reply-requires : tie.Need-reply-requires
+reply-requires c κs = search needs
+
+-- src/lib.rt:41:5
+publish-requires : tie.Need-publish-requires
+publish-requires c κs = search needs
+
+-- src/lib.rt:42:9
+notify-requires : tie.Need-notify-requires
+notify-requires c κs = search needs
+
+-- src/lib.rt:35:1
+same-length : tie.Need-same-length
+same-length c = search needs
+
+-- src/lib.rt:35:1
+returns : tie.Need-returns
+unfolding repliedPage
+returns c =
+    let a = c .before .before .before .before .before .before .before .before .before .before .before .before .args in
+    let p = c .before .before .before .before .before .before .before .before .before .before .before .before .pre in
+    let n = c .before .before .before .before .before .before .before .before .before .before .ahead in
+    let page = c .before .before .before .before .publish .ensures ∙ ap (λ q. withRspProd q (n .result)) (c .before .before .before .before .before .before .before .before .reply .ensures) ∙ ap (withRspProd (repliesTo (a .ring .now) (a .old) (a .slots) (a .extras) (a .status))) (n .ensures) in
+    record {
+      counterIs = n .ensures;
+      notifyIs = c .notify .ensures ∙ ap (λ q. notify q (a .old) (n .result)) page ∙ notify-stays (a .ring .now) (p .0) (a .old) (a .slots) (a .extras) (a .status) (a .old) (n .result) ∙ ap (notify (a .ring .now) (a .old)) (n .ensures);
+      pageIs = page;
+    }
+
+pub consume-spec : {M : Type 1} → statement M
+consume-spec =
+    tie.close
+    (tie.spec ahead-requires reply-requires publish-requires notify-requires same-length returns)

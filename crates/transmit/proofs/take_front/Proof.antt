@@ -1,0 +1,144 @@
+-- `take_front` meets its contract, by what the divider read at the front of the posted slots.
+use mathlib.Core.Path.{_≡_, refl, sym, ap, _∙_}
+use mathlib.Core.List.{map}
+use Prim.Native.Nat.{_+_}
+use native.Mathlib.Omega.{arith}
+use lib.ListN.{length, take, replicate}
+use Rattle.words.specs.Word.{splice}
+use Rattle.ring.specs.Ring.{slotsFrom}
+use Rattle.netif.specs.Slot.{size}
+use Rattle.netif.specs.Packet.{laterOf}
+use Rattle.netif.specs.declared.Answer.the-variants.{Misshapen, Waiting}
+use Rattle.transmit.specs.Code.{packetAt}
+use Rattle.transmit.proofs.Cases.{waiting-slots, front-stops, front-wrong, front-packet}
+use Rattle.transmit.proofs.Settling.{front-beginning, front-misshapen, front-whole, whole-ready, extras-are, packet-whole, parts-held, gives-refusal}
+use borrow.Author.Needs.{needs}
+use Rattle.transmit.proofs.take_front.Statement.{statement}
+use Rattle.transmit.proofs.take_front.Tie as tie
+use Rattle.transmit.proofs.take_front.Reads as reads
+use Rattle.transmit.proofs.take_front.Lts as lts
+use Rattle.netif.proofs.divider.read.Reads as read-reads
+use Rattle.ring.proofs.ask_event.Reads as ask-event-reads
+use Rattle.transmit.proofs.judging.own_part.Reads as own-part-reads
+use Rattle.transmit.proofs.settle.Reads as settle-reads
+
+-- src/lib.rt:108:11
+read-requires : tie.Need-read-requires
+read-requires c κs = search needs
+
+-- src/lib.rt:110:21
+enum-told : tie.Need-enum-told
+enum-told c = search needs
+
+-- src/lib.rt:114:29
+enum-told-2 : tie.Need-enum-told-2
+enum-told-2 c = search needs
+
+-- src/lib.rt:114:13
+ask-event-requires : tie.Need-ask-event-requires
+ask-event-requires c κs = search needs
+
+-- src/lib.rt:117:22
+enum-known-o : tie.Need-enum-known-o
+enum-known-o c = search needs
+
+-- src/lib.rt:119:24
+own-part-requires : tie.Need-own-part-requires
+own-part-requires c κs = search needs
+
+-- src/lib.rt:119:13
+array-write-sizes : tie.Need-array-write-sizes
+array-write-sizes c = search needs
+
+-- src/lib.rt:120:13
+settle-requires : tie.Need-settle-requires
+settle-requires c κs =
+    let a = c .before .before .before .before .before .before .before .before .before .before .before .before .before .before .before .args in
+    let p = c .before .before .before .before .before .before .before .before .before .before .before .before .before .before .before .pre in
+    let q = a .queue in
+    let l = slotsFrom 12 256 (a .ring .now) (q .consumed) (a .count) in
+    let r = c .before .before .before .before .before .before .before .before .read in
+    let o = c .before .before .before .before .before .before .o .given .0 .0 in
+    let w = front-whole l o (sym (c .before .before .before .before .before .before .o .given .1) ∙ r .ensures .answer) in
+    let is = w .3 in
+    let ready = whole-ready (a .ring .now) (q .consumed) (a .count) (p .3) (w .0) (w .1) (w .2) o is in
+    let later = ap (λ x. laterOf x (take (w .0 + w .1) l)) (sym (extras-are (a .ring .now) (q .consumed) (a .count) (p .3) (w .0) (w .1) (w .2) o is)) ∙ ap (laterOf (o .extras)) (packet-whole (a .ring .now) (q .consumed) (a .count) (p .3) (w .0) (w .1) (w .2) o is) in (
+      p .0,
+      ready,
+      parts-held o (o .extras) (packetAt (a .ring .now) (q .consumed) o) (ready .outline) (replicate 18 0) _ (c .before .before .before .own-part .result) (c .before .before .before .own-part .ensures)
+          (r .ensures .table (w .0) (w .1) (w .2) ∙ ap (λ x. splice (replicate 18 0) 1 (map size x)) later) (omega arith),
+    )
+
+-- src/lib.rt:103:1
+same-length : tie.Need-same-length
+same-length c = search needs
+
+-- src/lib.rt:103:1
+returns : tie.Need-returns
+returns c =
+    let a = c .before .before .before .before .before .before .before .before .before .args in
+    let p = c .before .before .before .before .before .before .before .before .before .pre in
+    let q = a .queue in
+    let l = slotsFrom 12 256 (a .ring .now) (q .consumed) (a .count) in
+    let r = c .before .before .read in
+    let waits = waiting-slots (a .ring .now) (q .consumed) (a .count) (p .1) in
+    rw (front-wrong (a .grants .now) (a .window .now) q (a .ring .now) (a .frame .now) l waits (front-misshapen l (sym (c .enum-told .given .1) ∙ r .ensures .answer)))
+    (gives-refusal 5 q (a .ring .now) (a .frame .now) Misshapen refl)
+
+-- src/lib.rt:103:1
+same-length-2 : tie.Need-same-length-2
+same-length-2 c = search needs
+
+-- src/lib.rt:103:1
+returns-2 : tie.Need-returns-2
+returns-2 c =
+    let a = c .before .before .before .before .before .before .before .before .before .before .before .before .before .args in
+    let p = c .before .before .before .before .before .before .before .before .before .before .before .before .before .pre in
+    let q = a .queue in
+    let l = slotsFrom 12 256 (a .ring .now) (q .consumed) (a .count) in
+    let r = c .before .before .before .before .before .before .read in
+    let waits = waiting-slots (a .ring .now) (q .consumed) (a .count) (p .1) in
+    rw (front-stops (a .grants .now) (a .window .now) q (a .ring .now) (a .frame .now) l waits (front-beginning l (sym (c .before .before .before .before .enum-told2 .given .1) ∙ r .ensures .answer)), c .before .before .ask-event .ensures)
+    (gives-refusal 6 q (a .ring .now) (a .frame .now) Waiting refl)
+
+-- src/lib.rt:103:1
+same-length-3 : tie.Need-same-length-3
+same-length-3 c = search needs
+
+-- src/lib.rt:103:1
+same-length-4 : tie.Need-same-length-4
+same-length-4 c = search needs
+
+-- src/lib.rt:103:1
+returns-3 : tie.Need-returns-3
+returns-3 c =
+    let a = c .before .before .before .before .before .before .before .before .before .before .before .before .before .before .before .before .before .before .before .before .args in
+    let p = c .before .before .before .before .before .before .before .before .before .before .before .before .before .before .before .before .before .before .before .before .pre in
+    let q = a .queue in
+    let l = slotsFrom 12 256 (a .ring .now) (q .consumed) (a .count) in
+    let r = c .before .before .before .before .before .before .before .before .before .before .before .before .before .read in
+    let o = c .before .before .before .before .before .before .before .before .before .before .before .o .given .0 .0 in
+    let w = front-whole l o (sym (c .before .before .before .before .before .before .before .before .before .before .before .o .given .1) ∙ r .ensures .answer) in
+    let is = w .3 in
+    let waits = waiting-slots (a .ring .now) (q .consumed) (a .count) (p .1) in
+    rw (front-packet (a .grants .now) (a .window .now) q (a .ring .now) (a .frame .now) l waits (w .0) (w .1) (w .2), packet-whole (a .ring .now) (q .consumed) (a .count) (p .3) (w .0) (w .1) (w .2) o is, ← extras-are (a .ring .now) (q .consumed) (a .count) (p .3) (w .0) (w .1) (w .2) o is) (c .before .before .before .before .settle .ensures)
+
+pub take-front-spec : {M : Type 1} → statement M
+take-front-spec =
+    tie.close
+    (tie.spec
+    read-requires
+    enum-told
+    enum-told-2
+    ask-event-requires
+    enum-known-o
+    own-part-requires
+    array-write-sizes
+    settle-requires
+    same-length
+    returns
+    same-length-2
+    returns-2
+    same-length-3
+    same-length-4
+    returns-3)
