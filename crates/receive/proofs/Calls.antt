@@ -1,0 +1,130 @@
+-- From the stages to the call: what is left after replies and scatter is what the definition says, and which of its cases a call
+-- comes to, test by test.
+use mathlib.Core.Path.{_≡_, refl, sym, ap, _∙_}
+use mathlib.Core.List.{List}
+use mathlib.Core.Bool.{Bool, true, false, _||_}
+use Prim.Native.Nat.{ℕ, _+_, _*_, _≤_, _<_}
+use native.Mathlib.Omega.{arith}
+use lib.ListN.{length, take}
+use lib.Dec.{ltb, eqb}
+use borrow.Author.Tests.{lt-ltb, le-ltb, ltb-false}
+use Rattle.ring.specs.Ring.{wadd, notify, posted, asking, withRspProd, withReplies}
+use Rattle.ring.proofs.Ring.{slots-length}
+use Rattle.netif.specs.Report.{halt, goOn, plain, spoiledReport, reportOf}
+use Rattle.netif.specs.declared.Queue.{Queue}
+use Rattle.netif.specs.declared.Outcome.{Outcome}
+use Rattle.netif.specs.declared.Answer.{Answer}
+use Rattle.netif.specs.declared.Answer.the-variants as answer
+use Rattle.netif.specs.declared.Verdict.{Verdict}
+use Rattle.netif.specs.declared.Verdict.the-variants.{Good, Bad}
+use Rattle.receive.specs.Put.{badLength, needed, requestsFrom, pagesNamed, judge, scatter, errorReplies, pieceReplies, receiveReport, Delivery, told, replied, refuse, deliver, settle, receivePut, Delivered}
+use Rattle.receive.specs.Stages.{AllUsable, Judged, Finished}
+use Rattle.receive.proofs.Requests.{good-usable}
+use Rattle.receive.proofs.Pieces.{errors-notify, pieces-notify}
+
+-- ---- the requests that a frame needs
+
+pub needed-few : (n : ℕ) → n ≤ 65535 → needed n ≤ 16
+unfolding needed
+needed-few n h = omega arith
+
+pub needed-cover : (n : ℕ) → 4096 * needed n ≤ n + 4095
+unfolding needed
+needed-cover n = omega arith
+
+-- ---- consumed
+
+module _ (old count : ℕ) (page : List ℕ) (size : length page ≡ 4096) (few : count ≤ 16) (new : ℕ) (ahead : new ≡ wadd old count) (r : Outcome) (goes : r .queue ≡ goOn new) where
+  all : count ≡ length (requestsFrom page old count)
+  all = sym (slots-length 8 256 page count old)
+
+  counter : new ≡ wadd old (length (requestsFrom page old count))
+  counter = ahead ∙ ap (wadd old) all
+
+  pub refused : (cause place : ℕ) (mid last : List ℕ) (notifies : Bool) → mid ≡ withReplies 8 256 page old (errorReplies (requestsFrom page old count)) → Finished mid old new last notifies
+      → r .answer ≡ answer.Spoiled cause place count notifies → (window : List ℕ) → Delivered (refuse old page window (requestsFrom page old count) cause place) r last window
+  unfolding refuse
+  refused cause place mid last notifies m f a window =
+      let told : notifies ≡ notify page old (wadd old (length (requestsFrom page old count)))
+      = f .notifies ∙ ap (λ (p : List ℕ). notify p old new) m ∙ errors-notify page size old count few old new ∙ ap (notify page old) counter in
+      record {
+        report = ap reportOf a ∙ (λ i. spoiledReport cause place (all i) (told i));
+        queue = goes ∙ ap goOn counter;
+        page = f .page ∙ (λ i. withRspProd (m i) (counter i));
+        window = refl;
+      }
+
+  pub delivered : (pages window frame mid last window′ : List ℕ) (notifies : Bool) → mid ≡ withReplies 8 256 page old (pieceReplies (requestsFrom page old count) frame) → Finished mid old new last notifies
+      → window′ ≡ scatter window pages frame → reportOf (r .answer) ≡ receiveReport count notifies (length frame)
+      → Delivered (deliver old page window (requestsFrom page old count) pages frame) r last window′
+  unfolding deliver
+  delivered pages window frame mid last window′ notifies m f w a =
+      let told : notifies ≡ notify page old (wadd old (length (requestsFrom page old count)))
+      = f .notifies ∙ ap (λ (p : List ℕ). notify p old new) m ∙ pieces-notify page size old count few frame old new ∙ ap (notify page old) counter in
+      record {
+        report = a ∙ (λ i. receiveReport (all i) (told i) (length frame));
+        queue = goes ∙ ap goOn counter;
+        page = f .page ∙ (λ i. withRspProd (m i) (counter i));
+        window = w;
+      }
+
+-- ---- by what the judge found
+
+module _ (table window page : List ℕ) (old count : ℕ) (pages : List ℕ) (v : Verdict) (judged : Judged table window (requestsFrom page old count) pages v) where
+  named : v ≡ Good → take count pages ≡ pagesNamed table (requestsFrom page old count)
+  named h = ap (λ (k : ℕ). take k pages) (sym (slots-length 8 256 page count old)) ∙ judged .named h
+
+  pub good-pages : v ≡ Good → AllUsable (length window) (take count pages)
+  good-pages h = rw (named h) (good-usable table window (requestsFrom page old count) 0 (sym (judged .verdict) ∙ h))
+
+  module _ (frame : List ℕ) (r : Outcome) (ring′ window′ : List ℕ) where
+    pub settled-bad : (cause place : ℕ) → v ≡ Bad cause place → Delivered (refuse old page window (requestsFrom page old count) cause place) r ring′ window′
+        → Delivered (settle table old page window (requestsFrom page old count) frame (judge table window 0 (requestsFrom page old count))) r ring′ window′
+    settled-bad cause place h d = rw (← judged .verdict, h) d
+
+    pub settled-good : v ≡ Good → Delivered (deliver old page window (requestsFrom page old count) (take count pages) frame) r ring′ window′
+        → Delivered (settle table old page window (requestsFrom page old count) frame (judge table window 0 (requestsFrom page old count))) r ring′ window′
+    settled-good h d = rw (← judged .verdict, h) (rw (named h) at d)
+
+-- ---- the call
+
+or-false : (a b : Bool) → a || b ≡ false → b ≡ false
+or-false true b h = absurd (let z : _≡_ {A = ℕ} 0 1 = cc in omega arith)
+or-false false b h = h
+
+pub good-length : (n : ℕ) → badLength n ≡ false → n ≤ 65535
+unfolding badLength
+good-length n h = ltb-false 65535 n (or-false (ltb n 14) (ltb 65535 n) h)
+
+-- an answer whose other fields are 0
+pub told-so : (d : Delivery) (n : ℕ) (q : Queue) (page window ring′ : List ℕ) (a : Answer) (r : Outcome) → d ≡ told n q page window → (r .answer ≡ a) × (r .queue ≡ q) → reportOf a ≡ plain n → ring′ ≡ page → Delivered d r ring′ window
+told-so d n q page window ring′ a r h t e p = rw h (record { report = ap reportOf (t .0) ∙ e; queue = t .1; page = p; window = refl })
+
+module _ (table : List ℕ) (q : Queue) (page window frame : List ℕ) where
+  pub put-bad-page : eqb (length page) 4096 ≡ false → receivePut table q page window frame ≡ told 1 q page window
+  unfolding receivePut
+  put-bad-page h = rw h
+
+  module _ (sized : eqb (length page) 4096 ≡ true) where
+    pub put-bad-length : badLength (length frame) ≡ true → receivePut table q page window frame ≡ told 9 q page window
+    unfolding receivePut
+    put-bad-length h = rw (sized, h)
+
+    module _ (fine : badLength (length frame) ≡ false) where
+      pub put-halted : q .halted ≡ true → receivePut table q page window frame ≡ told 2 q page window
+      unfolding receivePut
+      put-halted h = rw (sized, fine, h)
+
+      module _ (runs : q .halted ≡ false) (m : ℕ) (counts : m ≡ posted page (q .consumed)) where
+        pub put-overflow : 256 < m → receivePut table q page window frame ≡ told 3 (halt q) page window
+        unfolding receivePut
+        put-overflow h = rw (sized, fine, runs, ← counts, lt-ltb 256 m h)
+
+        module _ (room : m ≤ 256) (k : ℕ) (needs : k ≡ needed (length frame)) where
+          pub put-no-buffers : m < k → receivePut table q page window frame ≡ told 10 q (asking page) window
+          unfolding receivePut
+          put-no-buffers h = rw (sized, fine, runs, ← counts, le-ltb 256 m room, ← needs, lt-ltb m k h)
+
+          pub put-settled : k ≤ m → receivePut table q page window frame ≡ settle table (q .consumed) page window (requestsFrom page (q .consumed) k) frame (judge table window 0 (requestsFrom page (q .consumed) k))
+          unfolding receivePut
+          put-settled h = rw (sized, fine, runs, ← counts, le-ltb 256 m room, ← needs, le-ltb m k h)

@@ -1,0 +1,155 @@
+-- The pieces of a frame as the code writes and reports them.
+use mathlib.Core.Path.{_≡_, refl, sym, ap, _∙_}
+use mathlib.Core.Logic.{⊎-elim}
+use mathlib.Core.List.{List, [], _∷_, _++_, append-assoc}
+use mathlib.Core.Bool.{Bool, true, false, cond}
+use Prim.Native.Nat.{ℕ, zero, suc, _+_, _-_, _*_, _≤_, _<_, min}
+use native.Mathlib.Omega.{arith}
+use native.Mathlib.Nat.{add-zero}
+use lib.ListN.{length, take, drop, getD, length-take, length-drop, length-map}
+use lib.Seq.{drop-drop, take-all}
+use lib.Dec.{ltb}
+use borrow.Author.Tests.{lt-ltb, le-ltb}
+use Rattle.words.specs.Word.{u16At, u16Bytes, splice}
+use Rattle.words.proofs.Word.{lt-or-ge}
+use Rattle.ring.specs.Ring.{wadd, notify, slotPlace, slotAt, withReplies}
+use Rattle.ring.proofs.Ring.{Short, place-fits, slots-at, slots-length, slot-u16}
+use Rattle.grant.specs.Grant.{withPage}
+use Rattle.netif.specs.Slot.{Slot, error, requestIdent, receiveReply}
+use Rattle.receive.specs.Put.{requestsFrom, scatter, replyFlags, pieceReplies, errorReply, errorReplies}
+use Rattle.receive.proofs.Replied.{reply-next, notify-replied}
+use Rattle.receive.proofs.Splices.{splice-next, take-min, part-cons, map-at}
+
+-- ---- the pieces written
+
+-- piece i, as the part of the frame that the code cuts out
+pub piece-cut : (frame : List ℕ) (a m n : ℕ) → n ≡ min 4096 (length frame - a) → m ≡ n → take m (drop a frame) ≡ take 4096 (drop a frame)
+piece-cut frame a m n h e =
+    let k : m ≡ min 4096 (length (drop a frame)) = e ∙ h ∙ ap (min 4096) (sym (length-drop a frame)) in
+    rw k (take-min 4096 (drop a frame))
+
+-- one more piece
+pub scatter-next : (window pages frame : List ℕ) (i count : ℕ) → i < count → count ≤ length pages
+    → scatter window (take (count - i) (drop i pages)) (drop (4096 * i) frame)
+    ≡ scatter (withPage window (getD pages i 0) (take 4096 (drop (4096 * i) frame))) (take (count - (i + 1)) (drop (i + 1) pages)) (drop (4096 * (i + 1)) frame)
+scatter-next window pages frame i count h g =
+    let e : 4096 * i + 4096 ≡ 4096 * (i + 1) = omega arith in
+    ap (λ (l : List ℕ). scatter window l (drop (4096 * i) frame)) (part-cons pages 0 i count h g)
+    ∙ ap (scatter (withPage window (getD pages i 0) (take 4096 (drop (4096 * i) frame))) (take (count - (i + 1)) (drop (i + 1) pages)))
+    (drop-drop 4096 (4096 * i) frame ∙ ap (λ (x : ℕ). drop x frame) e)
+
+-- ---- the replies
+
+reply-length : (i f s : ℕ) → length (receiveReply i 0 f s) ≡ 8
+unfolding receiveReply u16Bytes
+reply-length i f s = refl
+
+pub pieces-short : (l : List Slot) (frame : List ℕ) → Short 8 (pieceReplies l frame)
+pieces-short [] frame = tt
+pieces-short (s ∷ l) frame = (omega (arith, reply-length (requestIdent s) (replyFlags (ltb 0 (length l))) (length (take 4096 frame))), pieces-short l (drop 4096 frame))
+
+pub errors-short : (l : List Slot) → Short 8 (errorReplies l)
+errors-short [] = tt
+errors-short (s ∷ l) = (omega (arith, reply-length (requestIdent s) 0 error), errors-short l)
+
+pub pieces-length : (l : List Slot) (frame : List ℕ) → length (pieceReplies l frame) ≡ length l
+pieces-length [] frame = refl
+pieces-length (s ∷ l) frame = ap suc (pieces-length l (drop 4096 frame))
+
+pub errors-length : (l : List Slot) → length (errorReplies l) ≡ length l
+errors-length l = length-map l errorReply
+
+-- whether others follow, as the code asks it
+follows : (i n : ℕ) → ltb 0 (n - suc i) ≡ ltb (i + 1) n
+follows i n = ⊎-elim
+    (λ h. lt-ltb 0 (n - suc i) (omega arith) ∙ sym (lt-ltb (i + 1) n h))
+    (λ h. le-ltb 0 (n - suc i) (omega arith) ∙ sym (le-ltb (i + 1) n h))
+    (lt-or-ge (i + 1) n)
+
+piece-at : (l : List Slot) (frame : List ℕ) (i : ℕ) → i < length l
+    → getD (pieceReplies l frame) i [] ≡ receiveReply (requestIdent (getD l i [])) 0 (replyFlags (ltb 0 (length (drop (suc i) l)))) (length (take 4096 (drop (4096 * i) frame)))
+piece-at [] frame i h = absurd (omega arith)
+piece-at (s ∷ l) frame zero h = refl
+piece-at (s ∷ l) frame (suc i) h =
+    let z : 4096 + 4096 * i ≡ 4096 * suc i = omega arith in
+    piece-at l (drop 4096 frame) i (omega arith)
+    ∙ ap (λ (x : List ℕ). receiveReply (requestIdent (getD l i [])) 0 (replyFlags (ltb 0 (length (drop (suc i) l)))) (length (take 4096 x)))
+    (drop-drop (4096 * i) 4096 frame ∙ ap (λ (x : ℕ). drop x frame) z)
+
+module _ (page : List ℕ) (first count i : ℕ) (few : i < count) where
+  here : getD (requestsFrom page first count) i [] ≡ slotAt 8 256 page (first + i)
+  here = slots-at 8 256 page count first i few
+
+  pub error-here : getD (errorReplies (requestsFrom page first count)) i [] ≡ errorReply (slotAt 8 256 page (first + i))
+  error-here = map-at errorReply (requestsFrom page first count) i [] [] (omega (arith, slots-length 8 256 page count first)) ∙ ap errorReply here
+
+  pub piece-here : (frame : List ℕ) (flags status : ℕ) → flags ≡ replyFlags (ltb (i + 1) count) → status ≡ min 4096 (length frame - 4096 * i)
+      → getD (pieceReplies (requestsFrom page first count) frame) i [] ≡ receiveReply (requestIdent (slotAt 8 256 page (first + i))) 0 flags status
+  piece-here frame flags status p q =
+      let all : length (requestsFrom page first count) ≡ count = slots-length 8 256 page count first in
+      let f : replyFlags (ltb 0 (length (drop (suc i) (requestsFrom page first count)))) ≡ flags
+      = ap (λ (n : ℕ). replyFlags (ltb 0 n)) (length-drop (suc i) (requestsFrom page first count) ∙ ap (_- suc i) all) ∙ ap replyFlags (follows i count) ∙ sym p in
+      let s : length (take 4096 (drop (4096 * i) frame)) ≡ status
+      = length-take 4096 (drop (4096 * i) frame) ∙ ap (min 4096) (length-drop (4096 * i) frame) ∙ sym q in
+      piece-at (requestsFrom page first count) frame i (omega arith) ∙ rw (here, f, s)
+
+-- ---- one reply: its own id stands where the request had it
+
+module _ (page : List ℕ) (n : ℕ) where
+  id-here : requestIdent (slotAt 8 256 page n) ≡ u16At page (slotPlace 8 256 n)
+  unfolding requestIdent
+  id-here = slot-u16 8 256 page n 0 (omega arith) ∙ ap (u16At page) (add-zero (slotPlace 8 256 n))
+
+  pair-length : (x y : ℕ) → length (u16Bytes x ++ u16Bytes y) ≡ 4
+  unfolding u16Bytes
+  pair-length x y = refl
+
+  pub reply-stored : (mid last : List ℕ) (at id flags status : ℕ) → length page ≡ 4096 → at ≡ slotPlace 8 256 n → id ≡ u16At page at
+      → mid ≡ splice page at (u16Bytes id ++ u16Bytes 0) → last ≡ splice mid (at + 4) (u16Bytes flags ++ u16Bytes status)
+      → last ≡ splice page (slotPlace 8 256 n) (receiveReply (requestIdent (slotAt 8 256 page n)) 0 flags status)
+  unfolding receiveReply
+  reply-stored mid last at id flags status size a r p q =
+      let same : requestIdent (slotAt 8 256 page n) ≡ id = id-here ∙ sym (r ∙ ap (u16At page) a) in
+      q
+      ∙ ap (λ (x : List ℕ). splice x (at + 4) (u16Bytes flags ++ u16Bytes status)) p
+      ∙ splice-next page at (at + 4) (u16Bytes id ++ u16Bytes 0) (u16Bytes flags ++ u16Bytes status) (omega (arith, pair-length id 0))
+      (omega (arith, pair-length id 0, place-fits 8 256 n 4096 (omega arith) (omega arith)))
+      ∙ sym (rw (same, ← a, append-assoc (u16Bytes id ++ u16Bytes 0) (u16Bytes flags) (u16Bytes status)))
+
+-- ---- the loops that reply
+
+module _ (page : List ℕ) (size : length page ≡ 4096) (first count : ℕ) (few : count ≤ 16) where
+  error-count : length (errorReplies (requestsFrom page first count)) ≡ count
+  error-count = errors-length (requestsFrom page first count) ∙ slots-length 8 256 page count first
+
+  pub errors-next : (n i : ℕ) (now next : List ℕ) → i < count → n ≡ wadd first i → now ≡ withReplies 8 256 page first (take i (errorReplies (requestsFrom page first count)))
+      → next ≡ splice now (slotPlace 8 256 n) (errorReply (slotAt 8 256 now n)) → next ≡ withReplies 8 256 page first (take (i + 1) (errorReplies (requestsFrom page first count)))
+  errors-next n i now next h a p q =
+      reply-next 8 256 (omega arith) refl page (omega arith) first (errorReplies (requestsFrom page first count)) (errors-short (requestsFrom page first count)) (omega (arith, error-count))
+      errorReply n i now next (omega (arith, error-count)) a (error-here page first count i h) p q
+
+  pub errors-last : (i : ℕ) (now : List ℕ) → i ≡ count → now ≡ withReplies 8 256 page first (take i (errorReplies (requestsFrom page first count))) → now ≡ withReplies 8 256 page first (errorReplies (requestsFrom page first count))
+  errors-last i now h p = p ∙ ap (withReplies 8 256 page first) (take-all i (errorReplies (requestsFrom page first count)) (omega (arith, error-count)))
+
+  pub errors-notify : (old new : ℕ) → notify (withReplies 8 256 page first (errorReplies (requestsFrom page first count))) old new ≡ notify page old new
+  errors-notify old new =
+      notify-replied 8 256 (omega arith) page (omega arith) first (errorReplies (requestsFrom page first count)) (errors-short (requestsFrom page first count)) old new
+
+  module _ (frame : List ℕ) where
+    piece-count : length (pieceReplies (requestsFrom page first count) frame) ≡ count
+    piece-count = pieces-length (requestsFrom page first count) frame ∙ slots-length 8 256 page count first
+
+    pub pieces-next : (n i flags status : ℕ) (now next : List ℕ) → i < count → n ≡ wadd first i → flags ≡ replyFlags (ltb (i + 1) count) → status ≡ min 4096 (length frame - 4096 * i)
+        → now ≡ withReplies 8 256 page first (take i (pieceReplies (requestsFrom page first count) frame))
+        → next ≡ splice now (slotPlace 8 256 n) (receiveReply (requestIdent (slotAt 8 256 now n)) 0 flags status)
+        → next ≡ withReplies 8 256 page first (take (i + 1) (pieceReplies (requestsFrom page first count) frame))
+    pieces-next n i flags status now next h a f s p q =
+        reply-next 8 256 (omega arith) refl page (omega arith) first (pieceReplies (requestsFrom page first count) frame) (pieces-short (requestsFrom page first count) frame) (omega (arith, piece-count))
+        (λ (x : Slot). receiveReply (requestIdent x) 0 flags status) n i now next (omega (arith, piece-count)) a (piece-here page first count i h frame flags status f s) p q
+
+    pub pieces-last : (i : ℕ) (now : List ℕ) → i ≡ count → now ≡ withReplies 8 256 page first (take i (pieceReplies (requestsFrom page first count) frame)) → now ≡ withReplies 8 256 page first (pieceReplies (requestsFrom page first count) frame)
+    pieces-last i now h p = p ∙ ap (withReplies 8 256 page first) (take-all i (pieceReplies (requestsFrom page first count) frame) (omega (arith, piece-count)))
+
+    pub pieces-notify : (old new : ℕ) → notify (withReplies 8 256 page first (pieceReplies (requestsFrom page first count) frame)) old new ≡ notify page old new
+    pieces-notify old new =
+        notify-replied 8 256 (omega arith) page (omega arith) first (pieceReplies (requestsFrom page first count) frame) (pieces-short (requestsFrom page first count) frame) old new

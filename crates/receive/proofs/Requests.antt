@@ -1,0 +1,66 @@
+-- The requests of a frame as the code judges them: one more that is fit, one that is not, the table of their pages, and that
+-- the pages of requests that are all fit lie in the window.
+use mathlib.Core.Path.{_≡_, refl, sym, ap, _∙_}
+use mathlib.Core.List.{List, [], _∷_, _++_, map, map-append}
+use mathlib.Core.Bool.{Bool, true, false, not, cond}
+use Prim.Native.Nat.{ℕ, suc, _+_, _-_, _*_, _≤_, _<_}
+use native.Mathlib.Omega.{arith}
+use native.Mathlib.Numerals.{add-one}
+use lib.ListN.{length, take, set}
+use lib.Seq.{take-suc-set}
+use Rattle.ring.specs.Ring.{wadd, slotAt}
+use Rattle.ring.proofs.Ring.{slots-snoc}
+use Rattle.grant.specs.Grant.{fitReceive, pageOf}
+use Rattle.grant.specs.Found.{writePage}
+use Rattle.grant.specs.declared.Page.the-variants as found
+use Rattle.grant.proofs.Grant.{write-fit, write-unfit, receive-transmit, fit-page}
+use Rattle.netif.specs.Slot.{Slot, requestGref}
+use Rattle.netif.specs.Decode.{requestOf}
+use Rattle.netif.specs.Verdict.{test, _orElse_}
+use Rattle.netif.specs.declared.Request.{Request}
+use Rattle.netif.specs.declared.Verdict.{Verdict}
+use Rattle.netif.specs.declared.Verdict.the-variants.{Good, Bad}
+use Rattle.receive.specs.Put.{requestsFrom, pageNamed, pagesNamed, judge}
+use Rattle.receive.specs.Stages.{AllUsable}
+use Rattle.receive.proofs.Replied.{slot-ahead, slots-ahead}
+
+pub gref-field : (s : Slot) (r : Request) → r ≡ requestOf s → r .gref ≡ requestGref s
+unfolding requestOf
+gref-field s r h = ap (λ (x : Request). x .gref) h
+
+module _ (table window page : List ℕ) (first count n i : ℕ) (here : n ≡ wadd first i) (r : Request) (reads : r ≡ requestOf (slotAt 8 256 page n)) where
+  grefs : r .gref ≡ requestGref (slotAt 8 256 page n)
+  grefs = gref-field (slotAt 8 256 page n) r reads
+
+  pub judge-unfit : i < count → found.Unfit ≡ writePage table window (r .gref) → judge table window i (requestsFrom page (first + i) (count - i)) ≡ Bad 4 i
+  judge-unfit k h = rw (slots-ahead 8 256 refl page first n i count k here, write-unfit table window (requestGref (slotAt 8 256 page n)) (rw grefs at h))
+
+  module _ (p : ℕ) (fit : found.Fit p ≡ writePage table window (r .gref)) where
+    fits : (fitReceive table window (requestGref (slotAt 8 256 page n)) ≡ true) × (p ≡ pageNamed table (slotAt 8 256 page n))
+    fits = write-fit table window (requestGref (slotAt 8 256 page n)) p (rw grefs at fit)
+
+    pub judge-fit : i < count → judge table window i (requestsFrom page (first + i) (count - i)) ≡ judge table window (i + 1) (requestsFrom page (first + (i + 1)) (count - (i + 1)))
+    judge-fit k = rw (slots-ahead 8 256 refl page first n i count k here, fits .0, add-one i)
+
+    pub table-next : (pages : List ℕ) → i < length pages → take i pages ≡ pagesNamed table (requestsFrom page first i) → take (i + 1) (set pages i p) ≡ pagesNamed table (requestsFrom page first (i + 1))
+    table-next pages h e =
+        let named : p ≡ pageNamed table (slotAt 8 256 page (first + i)) = fits .1 ∙ ap (pageNamed table) (slot-ahead 8 256 refl page first n i here) in
+        rw (add-one i) (take-suc-set pages i p h)
+        ∙ ap (_++ (p ∷ [])) e
+        ∙ ap (λ (x : ℕ). pagesNamed table (requestsFrom page first i) ++ (x ∷ [])) named
+        ∙ sym (map-append (pageNamed table) (requestsFrom page first i) (slotAt 8 256 page (first + i) ∷ []))
+        ∙ sym (ap (pagesNamed table) (slots-snoc 8 256 page i first))
+
+pub not-good : (c k : ℕ) → Bad c k ≡ Good → ⊥
+not-good c k h = let z : _≡_ {A = ℕ} 0 1 = cc in omega arith
+
+-- the verdict on requests that are all fit
+rest-good : (b : Bool) (k : ℕ) (v : Verdict) → test (not b) 4 k orElse v ≡ Good → (b ≡ true) × (v ≡ Good)
+rest-good true k v h = (refl, h)
+rest-good false k v h = absurd (let z : _≡_ {A = ℕ} 0 1 = cc in omega arith)
+
+pub good-usable : (table window : List ℕ) (l : List Slot) (k : ℕ) → judge table window k l ≡ Good → AllUsable (length window) (pagesNamed table l)
+good-usable table window [] k h = tt
+good-usable table window (s ∷ l) k h =
+    let (fit, rest) = rest-good (fitReceive table window (requestGref s)) k (judge table window (suc k) l) h in
+    (fit-page table window (requestGref s) (receive-transmit table window (requestGref s) fit), good-usable table window l (suc k) rest)

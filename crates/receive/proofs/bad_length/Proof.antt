@@ -1,0 +1,21 @@
+-- `receive::bad_length` meets its contract: each test of the code is the definition's.
+use borrow.Author.Needs.{needs}
+use borrow.Author.Tests.{lt-ltb, le-ltb}
+use Rattle.receive.specs.Put.{badLength}
+use Rattle.receive.proofs.bad_length.Statement.{statement}
+use Rattle.receive.proofs.bad_length.Tie as tie
+use Rattle.receive.proofs.bad_length.Reads as reads
+use Rattle.receive.proofs.bad_length.Lts as lts
+
+-- src/lib.rt:31:1
+returns : tie.Need-returns
+unfolding badLength
+returns c = rw (lt-ltb _ 14 (c .if1 .taken))
+
+-- src/lib.rt:31:1
+returns-2 : tie.Need-returns-2
+unfolding badLength
+returns-2 c = rw (le-ltb _ 14 (c .if1 .left))
+
+pub bad-length-spec : {M : Type 1} → statement M
+bad-length-spec = tie.close (tie.spec returns returns-2)

@@ -1,0 +1,3 @@
+-- The definitions that the promises cite, in reading order.
+pub mod Put
+pub mod Stages

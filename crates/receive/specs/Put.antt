@@ -1,0 +1,142 @@
+-- Document 01, "Receive": one receive call, in the order of its answers.
+use mathlib.Core.Path.{_≡_}
+use mathlib.Core.List.{List, [], _∷_, map}
+use mathlib.Core.Bool.{Bool, not, cond, _||_}
+use Prim.Native.Nat.{ℕ, suc, _+_, _/_}
+use lib.ListN.{length, take, drop}
+use lib.Dec.{ltb, eqb}
+use Rattle.ring.specs.Ring.{pageSize, posted, asking, notify, wadd, withRspProd, slotsFrom, withReplies}
+use Rattle.grant.specs.Grant.{fitReceive, pageOf, withPage}
+use Rattle.netif.specs.Slot.{Slot, requestWidth, requestCount, error, requestIdent, requestGref, receiveReply}
+use Rattle.netif.specs.Report.{halt, goOn, Report, flag, plain, spoiledReport, reportOf}
+use Rattle.netif.specs.Verdict.{test, _orElse_}
+use Rattle.netif.specs.declared.Queue.{Queue}
+use Rattle.netif.specs.declared.Outcome.{Outcome}
+use Rattle.netif.specs.declared.Verdict.{Verdict}
+use Rattle.netif.specs.declared.Verdict.the-variants.{Good, Bad}
+
+-- a frame is 14 to 65,535 bytes long
+unfoldable pub badLength : ℕ → Bool
+badLength n = ltb n 14 || ltb 65535 n
+
+-- a frame goes out in pieces of so many bytes, the last perhaps shorter, and needs a request for each
+abbrev pub pieceSize : ℕ
+pieceSize = 4096
+
+unfoldable pub needed : ℕ → ℕ
+needed n = (n + 4095) / pieceSize
+
+-- k requests from slot n on
+abbrev pub requestsFrom : List ℕ → ℕ → ℕ → List Slot
+requestsFrom page n k = slotsFrom requestWidth requestCount page n k
+
+module _ (table : List ℕ) where
+  -- the pages that requests name
+  abbrev pub pageNamed : Slot → ℕ
+  pageNamed s = pageOf table (requestGref s)
+
+  abbrev pub pagesNamed : List Slot → List ℕ
+  pagesNamed l = map pageNamed l
+
+  -- each request's grant, from place k on: the first unfit one is cause 4, with its place
+  abbrev pub judge : List ℕ → ℕ → List Slot → Verdict
+  judge window k [] = Good
+  judge window k (s ∷ l) = test (not (fitReceive table window (requestGref s))) 4 k orElse judge window (suc k) l
+
+-- the frame's pieces at offset 0 of the pages, in order
+abbrev pub scatter : List ℕ → List ℕ → List ℕ → List ℕ
+scatter window [] frame = window
+scatter window (p ∷ l) frame = scatter (withPage window p (take pieceSize frame)) l (drop pieceSize frame)
+
+-- the flags of a reply: 4 if others follow it, 0 on the last
+abbrev pub replyFlags : Bool → ℕ
+replyFlags more = cond more 4 0
+
+-- replies to requests that got the pieces of a frame: the status is the piece's length
+abbrev pub pieceReplies : List Slot → List ℕ → List (List ℕ)
+pieceReplies [] frame = []
+pieceReplies (s ∷ l) frame =
+    receiveReply (requestIdent s) 0 (replyFlags (ltb 0 (length l))) (length (take pieceSize frame)) ∷ pieceReplies l (drop pieceSize frame)
+
+-- replies to requests of which one is unfit
+abbrev pub errorReply : Slot → List ℕ
+errorReply s = receiveReply (requestIdent s) 0 0 error
+
+abbrev pub errorReplies : List Slot → List (List ℕ)
+errorReplies l = map errorReply l
+
+-- done: requests consumed, notify, and the frame's length
+abbrev pub receiveReport : ℕ → Bool → ℕ → Report
+receiveReport n notified total = record {
+  answer = 0;
+  cause = 0;
+  place = 0;
+  slots = n;
+  notifies = flag notified;
+  total = total;
+  blank = 0;
+  validated = 0;
+  gsoSizeWord = 0;
+  gsoTypeWord = 0;
+}
+
+-- what a call leaves
+pub record Delivery : Type 0 where
+  pub report : Report
+  pub queue : Queue
+  pub page : List ℕ
+  pub window : List ℕ
+
+-- an answer whose other fields are 0
+abbrev pub told : ℕ → Queue → List ℕ → List ℕ → Delivery
+told n q page window = record { report = plain n; queue = q; page = page; window = window }
+
+-- replies from a counter on, and rsp_prod behind them
+abbrev pub replied : List ℕ → ℕ → ℕ → List (List ℕ) → List ℕ
+replied page old new rs = withRspProd (withReplies requestWidth requestCount page old rs) new
+
+-- one of the requests is unfit: all get an error, and no page is written
+unfoldable pub refuse : (old : ℕ) (page window : List ℕ) (requests : List Slot) (cause place : ℕ) → Delivery
+refuse old page window requests cause place =
+    let new = wadd old (length requests) in
+    record {
+      report = spoiledReport cause place (length requests) (notify page old new);
+      queue = goOn new;
+      page = replied page old new (errorReplies requests);
+      window = window;
+    }
+
+-- all are fit: their pages get the pieces of the frame
+unfoldable pub deliver : (old : ℕ) (page window : List ℕ) (requests : List Slot) (pages frame : List ℕ) → Delivery
+deliver old page window requests pages frame =
+    let new = wadd old (length requests) in
+    record {
+      report = receiveReport (length requests) (notify page old new) (length frame);
+      queue = goOn new;
+      page = replied page old new (pieceReplies requests frame);
+      window = scatter window pages frame;
+    }
+
+module _ (table : List ℕ) where
+  -- the requests that the frame needs are consumed, by what is found of them
+  abbrev pub settle : (old : ℕ) (page window : List ℕ) (requests : List Slot) (frame : List ℕ) → Verdict → Delivery
+  settle old page window requests frame (Bad cause place) = refuse old page window requests cause place
+  settle old page window requests frame Good = deliver old page window requests (pagesNamed table requests) frame
+
+  -- the call: bad page, bad length, halted already, overflow, no buffers, and then spoiled or done
+  unfoldable pub receivePut : Queue → List ℕ → List ℕ → List ℕ → Delivery
+  receivePut q page window frame =
+      let requests = requestsFrom page (q .consumed) (needed (length frame)) in
+      cond (not (eqb (length page) pageSize)) (told 1 q page window)
+      (cond (badLength (length frame)) (told 9 q page window)
+      (cond (q .halted) (told 2 q page window)
+      (cond (ltb requestCount (posted page (q .consumed))) (told 3 (halt q) page window)
+      (cond (ltb (posted page (q .consumed)) (needed (length frame))) (told 10 q (asking page) window)
+      (settle (q .consumed) page window requests frame (judge table window 0 requests))))))
+
+-- a call's answer, queue, ring page and window are those of a delivery
+pub record Delivered (d : Delivery) (r : Outcome) (ring′ window′ : List ℕ) : Type 0 where
+  pub report : reportOf (r .answer) ≡ d .report
+  pub queue : r .queue ≡ d .queue
+  pub page : ring′ ≡ d .page
+  pub window : window′ ≡ d .window

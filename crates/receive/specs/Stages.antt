@@ -1,0 +1,27 @@
+-- What the stages of a receive call promise each other.
+use mathlib.Core.Path.{_≡_}
+use mathlib.Core.Bool.{Bool}
+use mathlib.Core.List.{List, [], _∷_}
+use Prim.Native.Nat.{ℕ, _+_, _*_, _≤_}
+use lib.ListN.{length, take}
+use Rattle.ring.specs.Ring.{notify, withRspProd}
+use Rattle.netif.specs.Slot.{Slot}
+use Rattle.netif.specs.declared.Verdict.{Verdict}
+use Rattle.netif.specs.declared.Verdict.the-variants.{Good, Bad}
+use Rattle.receive.specs.Put.{judge, pagesNamed}
+
+-- pages that lie within a window of n bytes
+abbrev pub AllUsable : ℕ → List ℕ → Type 0
+AllUsable n [] = Unit {0}
+AllUsable n (p ∷ l) = (4096 * p + 4096 ≤ n) × AllUsable n l
+
+-- requests were judged; if all are fit, the table starts with the pages that they name
+pub record Judged (table window : List ℕ) (requests : List Slot) (pages : List ℕ) (r : Verdict) : Type 0 where
+  pub verdict : r ≡ judge table window 0 requests
+  pub sized : length pages ≡ 16
+  pub named : r ≡ Good → take (length requests) pages ≡ pagesNamed table requests
+
+-- rsp_prod was moved, and the guest's wish for an event read
+pub record Finished (before : List ℕ) (old new : ℕ) (after : List ℕ) (r : Bool) : Type 0 where
+  pub page : after ≡ withRspProd before new
+  pub notifies : r ≡ notify before old new
