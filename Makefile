@@ -1,11 +1,24 @@
-# make: the library; make test: the gate.
-.PHONY: all test clean
+# make                  build/libtollmeander.a, proved, with its pkg-config file
+# make install PREFIX=..  library, header and pkg-config file
+# make demo             eight guests and the host between them
+# make test             the gate: all proofs, then all tests
+# make bench            the library beside plain C
+# make soak SECONDS=..  the differential test for so long
+.DEFAULT_GOAL := lib
+include c.mk
 
-all:
-	rt check
+.PHONY: test soak clean
+SECONDS ?= 600
+
+# Proves what changed since the last time, and compiles.
+target/staticlib/libtollmeander.a: FORCE
+	rt staticlib tollmeander
 
 test:
 	.ci/run
 
+soak: target/staticlib/libtollmeander.a
+	cd tests && TOLLMEANDER_LIB=$(abspath $(<D)) cargo run -q --release --offline -p differential -- run --seconds $(SECONDS) --seed $$(date +%s)
+
 clean:
-	rm -rf target build
+	rm -rf target build tests/target

@@ -1,0 +1,100 @@
+# The C side: library and header, install, demo, tests.
+#
+#   lib                 build/libtollmeander.a and build/tollmeander.pc
+#   install PREFIX=..   library, header and pkg-config file (DESTDIR is heeded)
+#   demo                builds the demo and runs it (DEMO_OPTIONS="--packets 1000")
+#   test-c              tests/c/run.sh
+#   test-programs       builds what the tests run
+
+TOLLMEANDER_LIB ?= target/staticlib/libtollmeander.a
+TOLLMEANDER_VERSION ?= 0.1.0
+PREFIX ?= /usr/local
+BUILD ?= build
+
+CC := gcc
+C_WARNINGS := -Wall -Wextra -Wpedantic -Wshadow -Wconversion -Werror
+C_FLAGS := -std=c11 -O2 -g -D_POSIX_C_SOURCE=200809L $(C_WARNINGS) -MMD -MP -pthread
+C_INCLUDES := -Iinclude -Ihost -Idemo -Itests -Itests/host
+# The thread sanitizer does not know fences; freedom from races does not rest on them.
+TSAN_FLAGS := -fsanitize=thread -O1 -Wno-tsan
+
+# V=1 shows the commands.
+SAY = $(if $(V),,@echo "  $@";)
+
+LIB := $(BUILD)/libtollmeander.a
+PC := $(BUILD)/tollmeander.pc
+DEMO := $(BUILD)/tollmeander-demo
+
+# The simulated guest and the event channel, which demo and tests share.
+GUEST_PARTS := host/back_ring demo/front_ring demo/guest_pages demo/traffic demo/sender \
+               demo/receiver demo/device
+DEMO_PARTS := $(GUEST_PARTS) demo/guest demo/vif demo/options demo/outcome demo/progress \
+              demo/table demo/main
+THREAD_PARTS := $(GUEST_PARTS) tests/host/channel
+
+THREAD_TESTS := transmit_run receive_run hostile_transmit hostile_receive
+TEST_PROGRAMS := $(addprefix $(BUILD)/tests/,layout edges interleave $(THREAD_TESTS)) \
+                 $(addprefix $(BUILD)/tsan/,$(THREAD_TESTS))
+
+.PHONY: lib install demo test-c test-programs FORCE
+
+lib: $(LIB) $(PC)
+
+$(LIB): $(TOLLMEANDER_LIB)
+	@mkdir -p $(@D)
+	@cp $< $@
+
+# Written anew each time, as PREFIX may be another.
+$(PC): tollmeander.pc.in FORCE
+	@mkdir -p $(@D)
+	@sed -e 's|@PREFIX@|$(abspath $(PREFIX))|' -e 's|@VERSION@|$(TOLLMEANDER_VERSION)|' $< > $@
+
+install: lib
+	install -d $(DESTDIR)$(PREFIX)/lib/pkgconfig $(DESTDIR)$(PREFIX)/include
+	install -m 644 $(LIB) $(DESTDIR)$(PREFIX)/lib/
+	install -m 644 include/tollmeander.h $(DESTDIR)$(PREFIX)/include/
+	install -m 644 $(PC) $(DESTDIR)$(PREFIX)/lib/pkgconfig/
+
+demo: $(DEMO)
+	@$(DEMO) $(DEMO_OPTIONS)
+
+test-c: $(TOLLMEANDER_LIB)
+	tests/c/run.sh $(TOLLMEANDER_LIB)
+
+test-programs: $(TEST_PROGRAMS) $(DEMO)
+
+$(BUILD)/obj/%.o: %.c
+	@mkdir -p $(@D)
+	$(SAY)$(CC) $(C_FLAGS) $(C_INCLUDES) -c $< -o $@
+
+$(BUILD)/obj-tsan/%.o: %.c
+	@mkdir -p $(@D)
+	$(SAY)$(CC) $(C_FLAGS) $(TSAN_FLAGS) $(C_INCLUDES) -c $< -o $@
+
+$(DEMO): $(DEMO_PARTS:%=$(BUILD)/obj/%.o) $(LIB)
+	$(SAY)$(CC) $^ -o $@
+
+$(BUILD)/tests/layout: $(BUILD)/obj/tests/c/layout.o $(LIB)
+	@mkdir -p $(@D)
+	$(SAY)$(CC) $^ -o $@
+
+$(BUILD)/tests/edges: $(BUILD)/obj/tests/host/edges.o $(BUILD)/obj/host/back_ring.o $(LIB)
+	@mkdir -p $(@D)
+	$(SAY)$(CC) $^ -o $@
+
+# Includes back_ring.c, with hooks in it.
+$(BUILD)/tests/interleave: $(BUILD)/obj/tests/host/interleave.o $(LIB)
+	@mkdir -p $(@D)
+	$(SAY)$(CC) $^ -o $@
+
+$(THREAD_TESTS:%=$(BUILD)/tests/%): $(BUILD)/tests/%: $(BUILD)/obj/tests/host/%.o \
+                                    $(THREAD_PARTS:%=$(BUILD)/obj/%.o) $(LIB)
+	@mkdir -p $(@D)
+	$(SAY)$(CC) -pthread $^ -o $@
+
+$(THREAD_TESTS:%=$(BUILD)/tsan/%): $(BUILD)/tsan/%: $(BUILD)/obj-tsan/tests/host/%.o \
+                                   $(THREAD_PARTS:%=$(BUILD)/obj-tsan/%.o) $(LIB)
+	@mkdir -p $(@D)
+	$(SAY)$(CC) -pthread $(TSAN_FLAGS) $^ -o $@
+
+-include $(shell find $(BUILD)/obj $(BUILD)/obj-tsan -name '*.d' 2>/dev/null)

@@ -1,0 +1,397 @@
+/******************************************************************************
+ * tollmeander.h
+ *
+ * The backend side of one Xen network queue, in two calls:
+ *
+ *   tollmeander_transmit_take   takes at most one packet off a transmit ring
+ *                               (guest to host) and joins it to a frame
+ *   tollmeander_receive_put     puts at most one frame onto a receive ring
+ *                               (host to guest)
+ *
+ * Layouts and flags are those of Xen's public netif.h and ring.h. All integers
+ * in the memory that the host lends are little-endian.
+ *
+ * A call works on what the host lends it and on nothing else. It allocates
+ * nothing, keeps no pointer and no state, never blocks, calls nothing but
+ * memmove, and ends whatever the guest has written.
+ *
+ * Where a section below says NOTE, hosts have gone wrong there before.
+ *
+ * Usable from C99 and from C++.
+ */
+
+#ifndef TOLLMEANDER_H
+#define TOLLMEANDER_H
+
+#include <stddef.h>
+#include <stdint.h>
+
+#ifdef __cplusplus
+extern "C" {
+#endif
+
+/*
+ * Ring page
+ * =========
+ *
+ *    0     1     2     3     4     5     6     7  octet
+ * +-----+-----+-----+-----+-----+-----+-----+-----+
+ * | req_prod              | req_event             |  0
+ * +-----+-----+-----+-----+-----+-----+-----+-----+
+ * | rsp_prod              | rsp_event             |  8
+ * +-----+-----+-----+-----+-----+-----+-----+-----+
+ * | not used                                      |  16 to 63
+ * +-----+-----+-----+-----+-----+-----+-----+-----+
+ * | slot 0, slot 1, ... slot 255                  |  64 to 3135, transmit
+ * |                                               |  64 to 2111, receive
+ * +-----+-----+-----+-----+-----+-----+-----+-----+
+ * | not used                                      |  up to 4095
+ * +-----+-----+-----+-----+-----+-----+-----+-----+
+ *
+ * req_prod:  slots that the guest has ever posted. Read, never written.
+ * req_event: the guest notifies the host when req_prod passes this. Written by
+ *            EMPTY, WAITING and NO_BUFFERS (as req_prod + 1), never read.
+ * rsp_prod:  slots that have ever been replied to. Written by DONE and
+ *            SPOILED, never read.
+ * rsp_event: the host notifies the guest when rsp_prod passes this. Read,
+ *            never written.
+ * slot n:    at 64 + 12 * (n % 256) on a transmit ring, at
+ *            64 + 8 * (n % 256) on a receive ring.
+ *
+ * NOTE: The counters run on through 2^32. Slots posted and not consumed are
+ *       (uint32_t)(req_prod - consumed); a plain less-than between counters
+ *       fails at the wrap.
+ * NOTE: Which slots are next is decided by the lent counter alone. rsp_prod is
+ *       not read, as the guest can write it.
+ */
+#define TOLLMEANDER_PAGE_SIZE           4096u
+#define TOLLMEANDER_RING_SLOTS          256u
+#define TOLLMEANDER_RING_REQ_PROD       0u
+#define TOLLMEANDER_RING_REQ_EVENT      4u
+#define TOLLMEANDER_RING_RSP_PROD       8u
+#define TOLLMEANDER_RING_RSP_EVENT      12u
+#define TOLLMEANDER_RING_FIRST_SLOT     64u
+#define TOLLMEANDER_TRANSMIT_SLOT_SIZE  12u
+#define TOLLMEANDER_RECEIVE_SLOT_SIZE   8u
+
+/*
+ * Slots and replies
+ * =================
+ *
+ *    0     1     2     3     4     5     6     7     8     9    10    11  octet
+ * +-----+-----+-----+-----+-----+-----+-----+-----+-----+-----+-----+-----+
+ * | gref                  | offset    | flags     | id        | size      |
+ * +-----+-----+-----+-----+-----+-----+-----+-----+-----+-----+-----+-----+
+ *   transmit, data: flags bit 0 checksum blank, 1 data validated, 2 more data,
+ *   3 extra follows
+ *
+ * +-----+-----+-----+-----+-----+-----+-----+-----+-----+-----+-----+-----+
+ * |type |flags| gso size  |gtype| pad | features  | not used              |
+ * +-----+-----+-----+-----+-----+-----+-----+-----+-----+-----+-----+-----+
+ *   transmit, extra: type 1, flags bit 0 another extra follows, gtype 1 or 2
+ *
+ * +-----+-----+-----+-----+-----+-----+-----+-----+-----+-----+-----+-----+
+ * | id        | status    | as the guest left them                        |
+ * +-----+-----+-----+-----+-----+-----+-----+-----+-----+-----+-----+-----+
+ *   transmit, reply: 4 octets
+ *
+ * +-----+-----+-----+-----+-----+-----+-----+-----+
+ * | id        | not used  | gref                  |
+ * +-----+-----+-----+-----+-----+-----+-----+-----+
+ *   receive, request
+ *
+ * +-----+-----+-----+-----+-----+-----+-----+-----+
+ * | id        | offset 0  | flags     | status    |
+ * +-----+-----+-----+-----+-----+-----+-----+-----+
+ *   receive, reply: 8 octets; flags 4 if the frame goes on in the next slot,
+ *   else 0; status is the octets in this page, or REPLY_ERROR
+ *
+ * A packet is a data slot; its extras, if bit 3 of its flags is set; and more
+ * data slots, if bit 2 is set. It has at most TOLLMEANDER_PACKET_SLOTS_MAX slots,
+ * extras counted.
+ *
+ * NOTE: The size of a packet's first slot is the length of the whole frame. The
+ *       part in its own page is that length less the later slots' sizes.
+ * NOTE: An extra of another type than 1 halts the ring. Do not advertise
+ *       feature-multicast-control, feature-ctrl-ring or feature-xdp-headroom,
+ *       and the gso features only if the host cuts large packets.
+ * NOTE: A reply takes the place of the slot that it answers. What the guest
+ *       asked is gone after the call, but for a transmit slot's last 8 octets.
+ */
+#define TOLLMEANDER_PACKET_SLOTS_MAX    18u
+#define TOLLMEANDER_FRAME_MIN           14u
+#define TOLLMEANDER_FRAME_MAX           65535u
+
+/* Statuses of replies. DROPPED is Xen's; these two calls do not write it. */
+#define TOLLMEANDER_REPLY_OKAY          0
+#define TOLLMEANDER_REPLY_ERROR         (-1)
+#define TOLLMEANDER_REPLY_DROPPED       (-2)
+#define TOLLMEANDER_REPLY_NULL          1       /* to an extra, with id 0 */
+
+/*
+ * Grants and window
+ * =================
+ *
+ * The window is the guest's pages as the host has mapped them, end to end: page
+ * p is the octets 4096 * p to 4096 * p + 4095. The grant table has a word of
+ * four octets for each grant reference from 0 on:
+ *
+ *   bit 31 ............................ 2    1    0
+ * +-------------------------------------+----+----+
+ * | page number in the window           | w  | g  |
+ * +-------------------------------------+----+----+
+ *
+ * g: granted.  w: the page may be written.
+ *
+ * A reference is fit for transmit if its word lies wholly in the table, g is set
+ * and its page lies wholly in the window; for receive w must be set too.
+ * 0x0D grants page 3 to be read only.
+ *
+ * NOTE: The table is the host's own, not the guest's. Fill in a word only for a
+ *       page that is mapped now, with the access that it was mapped with; clear
+ *       it before unmapping, and where mapping failed. Keep a page mapped until
+ *       the replies that concern it are published.
+ */
+#define TOLLMEANDER_GRANT_SIZE          4u
+#define TOLLMEANDER_GRANTED             1u
+#define TOLLMEANDER_GRANT_WRITABLE      2u
+#define TOLLMEANDER_GRANT_PAGE_SHIFT    2
+
+/*
+ * Report
+ * ======
+ *
+ *    0     1     2     3     4     5     6     7  octet
+ * +-----+-----+-----+-----+-----+-----+-----+-----+
+ * | answer                | cause                 |  0
+ * +-----+-----+-----+-----+-----+-----+-----+-----+
+ * | place                 | slots                 |  8
+ * +-----+-----+-----+-----+-----+-----+-----+-----+
+ * | notify                | total                 |  16
+ * +-----+-----+-----+-----+-----+-----+-----+-----+
+ * | checksum_blank        | data_validated        |  24
+ * +-----+-----+-----+-----+-----+-----+-----+-----+
+ * | gso_size              | gso_type              |  32
+ * +-----+-----+-----+-----+-----+-----+-----+-----+
+ *
+ * Ten words of 32 bits in the byte order of the CPU. Every call writes all of
+ * them; a field that an answer does not speak of is 0.
+ *
+ * answer:         TOLLMEANDER_DONE to TOLLMEANDER_NO_BUFFERS; what the call
+ *                 also returns.
+ * cause:          SPOILED only, TOLLMEANDER_CAUSE_*.
+ * place:          SPOILED only, for the causes GRANT, OFFSET and GSO: which slot
+ *                 of the packet (extras counted) or of the frame's requests, the
+ *                 first being 0.
+ * slots:          DONE and SPOILED: slots consumed and replied to.
+ * notify:         DONE and SPOILED: 1 if the guest asked to be notified of these
+ *                 replies, by the rsp_event in the lent page.
+ * total:          DONE: octets of the frame.
+ * checksum_blank: DONE on transmit: the guest left the checksum to the host.
+ * data_validated: DONE on transmit: the guest says that the data is sound.
+ * gso_size:       DONE on transmit: the segment size to cut the frame to, or 0.
+ * gso_type:       DONE on transmit: 1 TCP over IPv4, 2 TCP over IPv6, 0 no gso.
+ *
+ * NOTE: notify is as old as the page that was lent. On a private copy of the
+ *       page, ask again as duty 5 below says.
+ * NOTE: SPOILED reports no total, and NO_ROOM reports nothing but itself. A
+ *       frame buffer of TOLLMEANDER_FRAME_MAX octets always has room.
+ * NOTE: A frame that was taken is still the guest's word. Its length and places
+ *       were tested, its content was not. gso_size may be 1: bound the cutting.
+ *       Treat a gso packet as checksum_blank, as some guests forget the flag.
+ * NOTE: A later release may append words. Compile and link header and library of
+ *       one release.
+ */
+struct tollmeander_report {
+    uint32_t answer;
+    uint32_t cause;
+    uint32_t place;
+    uint32_t slots;
+    uint32_t notify;
+    uint32_t total;
+    uint32_t checksum_blank;
+    uint32_t data_validated;
+    uint32_t gso_size;
+    uint32_t gso_type;
+};
+
+#define TOLLMEANDER_REPORT_WORDS        10u
+
+/*
+ * Answers
+ * =======
+ *
+ * What an answer does not name as changed is as it was before the call: octets
+ * of every buffer, the counter and the mark.
+ */
+
+/* The slots are consumed and replied to, the frame is handed over. */
+#define TOLLMEANDER_DONE                0u
+/* ring_len is not 4096. Nothing is changed. */
+#define TOLLMEANDER_BAD_PAGE            1u
+/* The ring was halted before the call. Nothing is changed. */
+#define TOLLMEANDER_HALTED              2u
+/* More than 256 slots are posted. The ring is now halted. */
+#define TOLLMEANDER_OVERFLOW            3u
+/* Transmit: nothing is posted. req_event is set. */
+#define TOLLMEANDER_EMPTY               4u
+/* Transmit: the posted slots begin no packet. The ring is now halted. */
+#define TOLLMEANDER_MISSHAPEN           5u
+/* Transmit: a packet's first slots are posted, not all. req_event is set. */
+#define TOLLMEANDER_WAITING             6u
+/* The slots are consumed and replied to with REPLY_ERROR (extras as ever with
+ * REPLY_NULL); no frame is handed over. See cause and place. */
+#define TOLLMEANDER_SPOILED             7u
+/* Transmit: a good packet, but frame_len is less than its total. Nothing is
+ * changed; call again with a longer buffer. */
+#define TOLLMEANDER_NO_ROOM             8u
+/* Receive: frame_len is not 14 to 65535. Nothing is changed. */
+#define TOLLMEANDER_BAD_LENGTH          9u
+/* Receive: fewer requests are posted than the frame has pages. req_event is
+ * set; the frame is still the host's. */
+#define TOLLMEANDER_NO_BUFFERS          10u
+
+/*
+ * Causes of SPOILED, in the order in which they are looked for. On receive only
+ * GRANT occurs.
+ */
+#define TOLLMEANDER_CAUSE_SHORT         1u      /* total below 14 */
+#define TOLLMEANDER_CAUSE_LONG          2u      /* total above 65535 */
+#define TOLLMEANDER_CAUSE_SIZES         3u      /* later sizes above total */
+#define TOLLMEANDER_CAUSE_GRANT         4u      /* reference is not fit */
+#define TOLLMEANDER_CAUSE_OFFSET        5u      /* part leaves its page */
+#define TOLLMEANDER_CAUSE_GSO           6u      /* gso size 0 or type unknown */
+
+/*
+ * What the host owes
+ * ==================
+ *
+ * The promises of this library hold if the host keeps the following. Nothing of
+ * it can be tested by the library.
+ *
+ * 1. Pointers. Every pointer is valid for its length, for reading and, where it
+ *    is not const, for writing, and is never null: also not where the length is
+ *    0. consumed, halted and report stand at addresses divisible by 4. The byte
+ *    buffers may stand at any address.
+ *
+ * 2. No overlap. No two of the things lent in one call share an octet: ring
+ *    page, grant table, window, frame buffer, counter, mark and report. In
+ *    particular the ring page is not a page of the window.
+ *
+ * 3. Nobody else writes. While a call runs, no other thread, no device and no
+ *    guest writes what is lent, and nobody reads what the call may write. The
+ *    two rings of a guest have one window, which put writes and take reads: make
+ *    one call at a time for a guest. Calls for different guests may run at once.
+ *
+ *    A ring page that the guest has mapped cannot be lent: the guest can write
+ *    it at any time. Keep a private page. When req_prod first covers a slot,
+ *    copy that slot into the private page, once; lend the private page. The
+ *    order: read req_prod; an acquire barrier; the slots up to it; then req_prod
+ *    into the private page, as it was read.
+ *
+ *    The guest can also write its data pages while they are lent. The proofs do
+ *    not speak of that; but a call copies the window's octets and decides nothing
+ *    by them, so such a guest spoils its own frame and no more. Parse the frame
+ *    buffer afterwards, never the window.
+ *
+ * 4. Write back little. After a call on a private page write to the guest's page
+ *    only what the call changed: after DONE and SPOILED the replied slots (the
+ *    first 4 octets of a transmit slot, all 8 of a receive slot) and rsp_prod;
+ *    after EMPTY, WAITING and NO_BUFFERS req_event. The whole page written back
+ *    would undo what the guest has written since.
+ *
+ * 5. Publish, then decide on the notification, in this order: the replies; a
+ *    release barrier (the guest sees the replies first, and gets its pages back
+ *    only after they were read or written); rsp_prod; a full barrier; only now
+ *    read the guest's rsp_event, and notify if
+ *    (uint32_t)(rsp_prod - rsp_event) < slots. An rsp_event read earlier may be
+ *    old: a guest that is not notified sleeps on. One notification too many does
+ *    no harm.
+ *
+ * 6. Look again before sleeping. After EMPTY, WAITING and NO_BUFFERS: write
+ *    req_event to the guest's page; a full barrier; read req_prod again; if it
+ *    has moved, call again. Else sleep until the guest notifies.
+ *
+ * 7. A halt is for ever. After OVERFLOW, MISSHAPEN and HALTED the ring is done
+ *    with, and nothing here lifts the mark. Disconnect the guest, both rings
+ *    (the other ring's mark is its own and still clear), at a place where
+ *    waiting is allowed, and ignore its events until then. A guest that
+ *    connects again gets a fresh queue.
+ *
+ * 8. Lend on. The counter, the mark and the (private) ring page go into the next
+ *    call as the last one left them. A fresh queue has mark 0, and req_prod and
+ *    rsp_prod equal to its counter, commonly 0.
+ *
+ * host/back_ring.c in the sources does 3 to 6 and 8 for a page that the guest
+ * has mapped. Copy it or link it.
+ */
+
+/*
+ * Takes the packet at the counter off a transmit ring.
+ *
+ * consumed: slots consumed so far, modulo 2^32.
+ * halted:   0, or anything else for halted. A call that halts stores 1; a call
+ *           that finds the ring halted leaves the value as it is.
+ * ring:     the ring page.
+ * grants:   the grant table; octets beyond the last whole word are not used.
+ * window:   the guest's pages.
+ * frame:    where the frame goes, from octet 0 on.
+ * report:   all of it is written.
+ *
+ * Answers, in the order in which they are looked for: BAD_PAGE, HALTED, OVERFLOW,
+ * EMPTY, then MISSHAPEN or WAITING, then SPOILED, NO_ROOM, DONE.
+ *
+ * Needs:  what "What the host owes" says.
+ * Leaves: after DONE the frame's total octets in frame, a reply in each of its
+ *         slots, the counter moved by slots, rsp_prod equal to the counter.
+ *         After SPOILED the same, but for frame. After EMPTY and WAITING
+ *         req_event = req_prod + 1. After OVERFLOW and MISSHAPEN the mark 1.
+ * Never:  hands over a part of a packet; replies to some slots of a packet and
+ *         not to the others; writes frame beyond total, or unless DONE; writes
+ *         grants or window; depends on slots that are not posted.
+ */
+uint32_t tollmeander_transmit_take(uint32_t *consumed, uint32_t *halted,
+                                   uint8_t *ring, size_t ring_len,
+                                   const uint8_t *grants, size_t grants_len,
+                                   const uint8_t *window, size_t window_len,
+                                   uint8_t *frame, size_t frame_len,
+                                   struct tollmeander_report *report);
+
+/*
+ * Puts a frame into the pages of the requests at the counter of a receive ring:
+ * 4096 octets to a page, from octet 0 of the page on, the last perhaps shorter.
+ *
+ * Parameters as above, but that window is written and frame is read; frame_len
+ * is the frame's length.
+ *
+ * Answers, in the order in which they are looked for: BAD_PAGE, BAD_LENGTH,
+ * HALTED, OVERFLOW, NO_BUFFERS, SPOILED, DONE.
+ *
+ * Needs:  what "What the host owes" says; and frames as the guest can take them:
+ *         complete checksums, no longer than its MTU, and longer than 4096 only
+ *         if it asked for scatter-gather.
+ * Leaves: after DONE the frame in the pages, a reply in each of the requests
+ *         used, the counter moved by slots, rsp_prod equal to the counter. After
+ *         SPOILED every request that the frame needed is replied to with
+ *         REPLY_ERROR, and no page is written. After NO_BUFFERS
+ *         req_event = req_prod + 1. After OVERFLOW the mark 1.
+ * Never:  delivers a part of a frame; writes a page unless every request that
+ *         the frame needs is fit; writes a page that is granted to be read only,
+ *         or octets of a page beyond the piece; writes grants or frame; uses a
+ *         request beyond the ones needed.
+ *
+ * NOTE: Two requests that name one page harm the guest alone: the later piece is
+ *       written over the earlier one.
+ */
+uint32_t tollmeander_receive_put(uint32_t *consumed, uint32_t *halted,
+                                 uint8_t *ring, size_t ring_len,
+                                 const uint8_t *grants, size_t grants_len,
+                                 uint8_t *window, size_t window_len,
+                                 const uint8_t *frame, size_t frame_len,
+                                 struct tollmeander_report *report);
+
+#ifdef __cplusplus
+}
+#endif
+
+#endif

@@ -1,0 +1,419 @@
+/*
+ * Header and library agree: the report's size and order, the answers, causes and statuses, the
+ * layout of ring page and grants, the values of the mark. Each answer and each cause that can
+ * occur is produced by a call and compared with the header's constant.
+ */
+#include <stddef.h>
+#include <stdint.h>
+#include <string.h>
+
+#include "check.h"
+#include "tollmeander.h"
+
+#define AT(field, offset) \
+    _Static_assert(offsetof(struct tollmeander_report, field) == (offset), #field " is misplaced")
+#define IS(name, number) _Static_assert((name) == (number), #name " has another number")
+
+_Static_assert(sizeof(struct tollmeander_report) == 40, "a report is ten words");
+_Static_assert(_Alignof(struct tollmeander_report) == 4, "a report is aligned to 4");
+AT(answer, 0);
+AT(cause, 4);
+AT(place, 8);
+AT(slots, 12);
+AT(notify, 16);
+AT(total, 20);
+AT(checksum_blank, 24);
+AT(data_validated, 28);
+AT(gso_size, 32);
+AT(gso_type, 36);
+IS(TOLLMEANDER_REPORT_WORDS, 10);
+
+IS(TOLLMEANDER_DONE, 0);
+IS(TOLLMEANDER_BAD_PAGE, 1);
+IS(TOLLMEANDER_HALTED, 2);
+IS(TOLLMEANDER_OVERFLOW, 3);
+IS(TOLLMEANDER_EMPTY, 4);
+IS(TOLLMEANDER_MISSHAPEN, 5);
+IS(TOLLMEANDER_WAITING, 6);
+IS(TOLLMEANDER_SPOILED, 7);
+IS(TOLLMEANDER_NO_ROOM, 8);
+IS(TOLLMEANDER_BAD_LENGTH, 9);
+IS(TOLLMEANDER_NO_BUFFERS, 10);
+
+IS(TOLLMEANDER_CAUSE_SHORT, 1);
+IS(TOLLMEANDER_CAUSE_LONG, 2);
+IS(TOLLMEANDER_CAUSE_SIZES, 3);
+IS(TOLLMEANDER_CAUSE_GRANT, 4);
+IS(TOLLMEANDER_CAUSE_OFFSET, 5);
+IS(TOLLMEANDER_CAUSE_GSO, 6);
+
+IS(TOLLMEANDER_REPLY_OKAY, 0);
+IS(TOLLMEANDER_REPLY_ERROR, -1);
+IS(TOLLMEANDER_REPLY_DROPPED, -2);
+IS(TOLLMEANDER_REPLY_NULL, 1);
+
+IS(TOLLMEANDER_PAGE_SIZE, 4096);
+IS(TOLLMEANDER_RING_SLOTS, 256);
+IS(TOLLMEANDER_RING_REQ_PROD, 0);
+IS(TOLLMEANDER_RING_REQ_EVENT, 4);
+IS(TOLLMEANDER_RING_RSP_PROD, 8);
+IS(TOLLMEANDER_RING_RSP_EVENT, 12);
+IS(TOLLMEANDER_RING_FIRST_SLOT, 64);
+IS(TOLLMEANDER_TRANSMIT_SLOT_SIZE, 12);
+IS(TOLLMEANDER_RECEIVE_SLOT_SIZE, 8);
+IS(TOLLMEANDER_PACKET_SLOTS_MAX, 18);
+IS(TOLLMEANDER_FRAME_MIN, 14);
+IS(TOLLMEANDER_FRAME_MAX, 65535);
+IS(TOLLMEANDER_GRANT_SIZE, 4);
+IS(TOLLMEANDER_GRANTED, 1);
+IS(TOLLMEANDER_GRANT_WRITABLE, 2);
+IS(TOLLMEANDER_GRANT_PAGE_SHIFT, 2);
+
+enum {
+    UNWRITTEN = 0x5A5A5A5A,
+    PAGES = 4,
+    READ_GREF = 3,          /* page 3, to be read only */
+    WRITE_GREF = 4,         /* page 1, writable */
+    OTHER_GREF = 5,         /* page 2, writable */
+    CLEAR_GREF = 6,         /* a word that does not grant */
+    OUTER_GREF = 7,         /* page 4, which is not in the window */
+    GRANTS = 8,
+    MORE_DATA = 4,
+    EXTRA_FOLLOWS = 8
+};
+
+/* What is lent, and a report between two words that must not be written. */
+static uint32_t consumed, halted;
+static uint8_t ring[TOLLMEANDER_PAGE_SIZE + 1];
+static uint8_t grants[GRANTS * TOLLMEANDER_GRANT_SIZE];
+static uint8_t window[PAGES * TOLLMEANDER_PAGE_SIZE];
+static uint8_t frame[TOLLMEANDER_FRAME_MAX + 1];
+static struct {
+    uint32_t before;
+    struct tollmeander_report report;
+    uint32_t after;
+} lent;
+
+static void put16(uint8_t *at, uint32_t value)
+{
+    at[0] = (uint8_t)value;
+    at[1] = (uint8_t)(value >> 8);
+}
+
+static void put32(uint8_t *at, uint32_t value)
+{
+    put16(at, value);
+    put16(at + 2, value >> 16);
+}
+
+static uint32_t get32(const uint8_t *at)
+{
+    return at[0] | (uint32_t)at[1] << 8 | (uint32_t)at[2] << 16 | (uint32_t)at[3] << 24;
+}
+
+static void grant(uint32_t gref, uint32_t page, uint32_t bits)
+{
+    put32(grants + TOLLMEANDER_GRANT_SIZE * gref, page << TOLLMEANDER_GRANT_PAGE_SHIFT | bits);
+}
+
+/* A fresh queue at a counter, with all four kinds of grant. */
+static void open_queue(uint32_t counter)
+{
+    consumed = counter;
+    halted = 0;
+    memset(ring, 0, sizeof ring);
+    put32(ring + TOLLMEANDER_RING_REQ_PROD, counter);
+    put32(ring + TOLLMEANDER_RING_RSP_PROD, counter);
+    put32(ring + TOLLMEANDER_RING_RSP_EVENT, counter + 1);
+    memset(grants, 0, sizeof grants);
+    grant(READ_GREF, 3, TOLLMEANDER_GRANTED);
+    grant(WRITE_GREF, 1, TOLLMEANDER_GRANTED | TOLLMEANDER_GRANT_WRITABLE);
+    grant(OTHER_GREF, 2, TOLLMEANDER_GRANTED | TOLLMEANDER_GRANT_WRITABLE);
+    grant(CLEAR_GREF, 0, TOLLMEANDER_GRANT_WRITABLE);
+    grant(OUTER_GREF, PAGES, TOLLMEANDER_GRANTED | TOLLMEANDER_GRANT_WRITABLE);
+    for (size_t i = 0; i < sizeof window; i++)
+        window[i] = (uint8_t)(i * 7 + i / TOLLMEANDER_PAGE_SIZE);
+    memset(frame, 0xEE, sizeof frame);
+}
+
+static uint8_t *transmit_slot(uint32_t n)
+{
+    return ring + TOLLMEANDER_RING_FIRST_SLOT +
+           TOLLMEANDER_TRANSMIT_SLOT_SIZE * (n % TOLLMEANDER_RING_SLOTS);
+}
+
+static uint8_t *receive_slot(uint32_t n)
+{
+    return ring + TOLLMEANDER_RING_FIRST_SLOT +
+           TOLLMEANDER_RECEIVE_SLOT_SIZE * (n % TOLLMEANDER_RING_SLOTS);
+}
+
+/* Posts the next slot: its place on the ring is req_prod, which goes up by one. */
+static uint32_t post(void)
+{
+    uint32_t n = get32(ring + TOLLMEANDER_RING_REQ_PROD);
+
+    put32(ring + TOLLMEANDER_RING_REQ_PROD, n + 1);
+    return n;
+}
+
+static void post_data(uint32_t gref, uint32_t offset, uint32_t flags, uint32_t id, uint32_t size)
+{
+    uint8_t *slot = transmit_slot(post());
+
+    put32(slot, gref);
+    put16(slot + 4, offset);
+    put16(slot + 6, flags);
+    put16(slot + 8, id);
+    put16(slot + 10, size);
+}
+
+static void post_extra(uint8_t type, uint8_t flags, uint32_t gso_size, uint8_t gso_type)
+{
+    uint8_t *slot = transmit_slot(post());
+
+    memset(slot, 0, TOLLMEANDER_TRANSMIT_SLOT_SIZE);
+    slot[0] = type;
+    slot[1] = flags;
+    put16(slot + 2, gso_size);
+    slot[4] = gso_type;
+}
+
+static void post_request(uint32_t id, uint32_t gref)
+{
+    uint8_t *slot = receive_slot(post());
+
+    put16(slot, id);
+    put32(slot + 4, gref);
+}
+
+/* Whether the report is exactly these ten words, in this order, and the call returned the first. */
+static int reported(uint32_t returned, const uint32_t *words)
+{
+    return lent.before == UNWRITTEN && lent.after == UNWRITTEN && returned == words[0] &&
+           memcmp(&lent.report, words, sizeof lent.report) == 0;
+}
+
+static void spoil_report(void)
+{
+    for (size_t i = 0; i < sizeof lent; i += sizeof(uint32_t)) {
+        const uint32_t unwritten = UNWRITTEN;
+
+        memcpy((uint8_t *)&lent + i, &unwritten, sizeof unwritten);
+    }
+}
+
+static uint32_t take(size_t ring_len, size_t frame_len)
+{
+    spoil_report();
+    return tollmeander_transmit_take(&consumed, &halted, ring, ring_len, grants, sizeof grants,
+                                     window, sizeof window, frame, frame_len, &lent.report);
+}
+
+static uint32_t put(size_t ring_len, size_t frame_len)
+{
+    spoil_report();
+    return tollmeander_receive_put(&consumed, &halted, ring, ring_len, grants, sizeof grants,
+                                   window, sizeof window, frame, frame_len, &lent.report);
+}
+
+/* Checks a call's report: its answer, and other words where they are given. */
+#define REPORTS(call, ...) \
+    CHECK(reported((call), (const uint32_t[TOLLMEANDER_REPORT_WORDS]){ __VA_ARGS__ }))
+#define TAKE() take(TOLLMEANDER_PAGE_SIZE, TOLLMEANDER_FRAME_MAX)
+#define PUT(length) put(TOLLMEANDER_PAGE_SIZE, (length))
+
+/* Done with every word of the report set, one value each. */
+static void check_done(void)
+{
+    open_queue(UINT32_MAX);
+    post_data(READ_GREF, 100, 1 | MORE_DATA | EXTRA_FOLLOWS, 7, 1500);
+    post_extra(1, 0, 1460, 2);
+    post_data(WRITE_GREF, 9, 0, 8, 300);
+    REPORTS(TAKE(), TOLLMEANDER_DONE, 0, 0, 3, 1, 1500, 1, 0, 1460, 2);
+    CHECK(consumed == 2 && halted == 0);
+    CHECK(get32(ring + TOLLMEANDER_RING_RSP_PROD) == 2);
+    CHECK(memcmp(frame, window + 3 * TOLLMEANDER_PAGE_SIZE + 100, 1200) == 0);
+    CHECK(memcmp(frame + 1200, window + 1 * TOLLMEANDER_PAGE_SIZE + 9, 300) == 0);
+    CHECK(frame[1500] == 0xEE);
+    CHECK(get32(transmit_slot(UINT32_MAX)) == (7 | (uint32_t)TOLLMEANDER_REPLY_OKAY << 16));
+    CHECK(get32(transmit_slot(0)) == (uint32_t)TOLLMEANDER_REPLY_NULL << 16);
+    CHECK(get32(transmit_slot(1)) == (8 | (uint32_t)TOLLMEANDER_REPLY_OKAY << 16));
+    post_data(READ_GREF, 0, 2, 9, TOLLMEANDER_FRAME_MIN);
+    REPORTS(TAKE(), TOLLMEANDER_DONE, 0, 0, 1, 0, TOLLMEANDER_FRAME_MIN, 0, 1, 0, 0);
+}
+
+static void check_refusals(void)
+{
+    open_queue(5);
+    post_data(READ_GREF, 0, 0, 1, 60);
+    REPORTS(take(TOLLMEANDER_PAGE_SIZE - 1, 60), TOLLMEANDER_BAD_PAGE, 0);
+    REPORTS(take(TOLLMEANDER_PAGE_SIZE + 1, 60), TOLLMEANDER_BAD_PAGE, 0);
+    REPORTS(take(0, 0), TOLLMEANDER_BAD_PAGE, 0);
+    REPORTS(take(TOLLMEANDER_PAGE_SIZE, 59), TOLLMEANDER_NO_ROOM, 0);
+    CHECK(consumed == 5 && halted == 0);
+    REPORTS(take(TOLLMEANDER_PAGE_SIZE, 60), TOLLMEANDER_DONE, 0, 0, 1, 1, 60, 0);
+    REPORTS(TAKE(), TOLLMEANDER_EMPTY, 0);
+    CHECK(get32(ring + TOLLMEANDER_RING_REQ_EVENT) == 7);
+    post_data(READ_GREF, 0, MORE_DATA, 1, 60);
+    REPORTS(TAKE(), TOLLMEANDER_WAITING, 0);
+    CHECK(get32(ring + TOLLMEANDER_RING_REQ_EVENT) == 8);
+    CHECK(consumed == 6 && halted == 0);
+}
+
+/* Checks what the mark is after a call on a halted ring, for a value of the mark. */
+static void check_mark(uint32_t mark)
+{
+    open_queue(0);
+    post_data(READ_GREF, 0, 0, 1, 60);
+    halted = mark;
+    REPORTS(TAKE(), TOLLMEANDER_HALTED, 0);
+    CHECK(halted == mark && consumed == 0);
+    REPORTS(PUT(60), TOLLMEANDER_HALTED, 0);
+    CHECK(halted == mark && consumed == 0);
+}
+
+static void check_halting(void)
+{
+    open_queue(0);
+    put32(ring + TOLLMEANDER_RING_REQ_PROD, 257);
+    REPORTS(TAKE(), TOLLMEANDER_OVERFLOW, 0);
+    CHECK(halted == 1 && consumed == 0);
+    open_queue(0);
+    put32(ring + TOLLMEANDER_RING_REQ_PROD, 257);
+    REPORTS(PUT(60), TOLLMEANDER_OVERFLOW, 0);
+    CHECK(halted == 1 && consumed == 0);
+    open_queue(0);
+    post_data(READ_GREF, 0, EXTRA_FOLLOWS, 1, 60);
+    post_extra(2, 0, 1460, 1);
+    REPORTS(TAKE(), TOLLMEANDER_MISSHAPEN, 0);
+    CHECK(halted == 1 && consumed == 0);
+    check_mark(1);
+    check_mark(2);
+    check_mark(UINT32_MAX);
+}
+
+/* A packet of two data slots with an extra between them, spoiled for a cause at a place. */
+static void check_cause(uint32_t total, uint32_t offset, uint32_t gref, uint32_t gso_size,
+                        uint32_t cause, uint32_t place)
+{
+    open_queue(10);
+    post_data(READ_GREF, 0, MORE_DATA | EXTRA_FOLLOWS, 21, total);
+    post_extra(1, 0, gso_size, 1);
+    post_data(gref, offset, 0, 22, 100);
+    REPORTS(TAKE(), TOLLMEANDER_SPOILED, cause, place, 3, 1, 0);
+    CHECK(consumed == 13 && halted == 0);
+    CHECK(get32(ring + TOLLMEANDER_RING_RSP_PROD) == 13);
+    CHECK(get32(transmit_slot(10)) == (21 | (uint32_t)TOLLMEANDER_REPLY_ERROR << 16));
+    CHECK(get32(transmit_slot(11)) == (uint32_t)TOLLMEANDER_REPLY_NULL << 16);
+    CHECK(get32(transmit_slot(12)) == (22 | (uint32_t)TOLLMEANDER_REPLY_ERROR << 16));
+    CHECK(frame[0] == 0xEE);
+}
+
+/* Cause 2 cannot occur: a size has 16 bits. */
+static void check_causes(void)
+{
+    check_cause(TOLLMEANDER_FRAME_MIN - 1, 0, READ_GREF, 1460, TOLLMEANDER_CAUSE_SHORT, 0);
+    check_cause(99, 0, READ_GREF, 1460, TOLLMEANDER_CAUSE_SIZES, 0);
+    check_cause(200, 0, CLEAR_GREF, 1460, TOLLMEANDER_CAUSE_GRANT, 2);
+    check_cause(200, 0, OUTER_GREF, 1460, TOLLMEANDER_CAUSE_GRANT, 2);
+    check_cause(200, 0, GRANTS, 1460, TOLLMEANDER_CAUSE_GRANT, 2);
+    check_cause(200, 3997, READ_GREF, 1460, TOLLMEANDER_CAUSE_OFFSET, 2);
+    check_cause(200, 3996, READ_GREF, 0, TOLLMEANDER_CAUSE_GSO, 1);
+}
+
+static void check_receive_done(void)
+{
+    uint8_t *first, *second;
+
+    open_queue(UINT32_MAX);
+    first = receive_slot(UINT32_MAX);
+    second = receive_slot(0);
+    post_request(9, WRITE_GREF);
+    REPORTS(PUT(4096 + 1), TOLLMEANDER_NO_BUFFERS, 0);
+    CHECK(get32(ring + TOLLMEANDER_RING_REQ_EVENT) == 1);
+    post_request(10, OTHER_GREF);
+    REPORTS(PUT(4096 + 1), TOLLMEANDER_DONE, 0, 0, 2, 1, 4096 + 1, 0);
+    CHECK(consumed == 1 && halted == 0);
+    CHECK(get32(first) == 9 && get32(first + 4) == (MORE_DATA | 4096u << 16));
+    CHECK(get32(second) == 10 && get32(second + 4) == 1u << 16);
+    CHECK(memcmp(window + TOLLMEANDER_PAGE_SIZE, frame, TOLLMEANDER_PAGE_SIZE) == 0);
+    CHECK(window[2 * TOLLMEANDER_PAGE_SIZE] == frame[TOLLMEANDER_PAGE_SIZE]);
+    CHECK(window[2 * TOLLMEANDER_PAGE_SIZE + 1] != frame[TOLLMEANDER_PAGE_SIZE]);
+}
+
+static void check_receive_refusals(void)
+{
+    open_queue(0);
+    post_request(9, WRITE_GREF);
+    post_request(10, READ_GREF);
+    REPORTS(put(TOLLMEANDER_PAGE_SIZE - 1, 60), TOLLMEANDER_BAD_PAGE, 0);
+    REPORTS(PUT(TOLLMEANDER_FRAME_MIN - 1), TOLLMEANDER_BAD_LENGTH, 0);
+    REPORTS(PUT(TOLLMEANDER_FRAME_MAX + 1), TOLLMEANDER_BAD_LENGTH, 0);
+    REPORTS(PUT(0), TOLLMEANDER_BAD_LENGTH, 0);
+    REPORTS(PUT(2 * 4096), TOLLMEANDER_SPOILED, TOLLMEANDER_CAUSE_GRANT, 1, 2, 1, 0);
+    CHECK(get32(receive_slot(0)) == 9);
+    CHECK(get32(receive_slot(0) + 4) == (uint32_t)TOLLMEANDER_REPLY_ERROR << 16);
+    CHECK(get32(receive_slot(1)) == 10);
+    CHECK(get32(receive_slot(1) + 4) == (uint32_t)TOLLMEANDER_REPLY_ERROR << 16);
+    CHECK(window[TOLLMEANDER_PAGE_SIZE] != frame[0]);
+    CHECK(consumed == 2 && halted == 0);
+}
+
+/* As many slots as the header says make a packet; one more is misshapen. */
+static void check_packet_slots(void)
+{
+    const uint32_t most = TOLLMEANDER_PACKET_SLOTS_MAX;
+
+    open_queue(0);
+    for (uint32_t i = 1; i <= most; i++)
+        post_data(READ_GREF, 0, i < most ? MORE_DATA : 0, i, 100);
+    REPORTS(TAKE(), TOLLMEANDER_SPOILED, TOLLMEANDER_CAUSE_SIZES, 0, most, 1, 0);
+    for (uint32_t i = 1; i <= most; i++)
+        post_data(READ_GREF, 0, MORE_DATA, i, 100);
+    REPORTS(TAKE(), TOLLMEANDER_MISSHAPEN, 0);
+}
+
+/* Buffers of no length: their pointers are not null, and nothing is read or written there. */
+static void check_empty_buffers(void)
+{
+    open_queue(0);
+    post_data(READ_GREF, 0, 0, 1, 60);
+    spoil_report();
+    REPORTS(tollmeander_transmit_take(&consumed, &halted, ring, TOLLMEANDER_PAGE_SIZE, grants, 0,
+                                      window, 0, frame, 0, &lent.report),
+            TOLLMEANDER_SPOILED, TOLLMEANDER_CAUSE_GRANT, 0, 1, 1, 0);
+}
+
+/* Byte buffers may stand at odd addresses. */
+static void check_odd_addresses(void)
+{
+    static uint8_t odd_ring[TOLLMEANDER_PAGE_SIZE + 1], odd_grants[sizeof grants + 1];
+    static uint8_t odd_window[sizeof window + 1];
+
+    open_queue(0);
+    post_data(READ_GREF, 1, 0, 1, 60);
+    memcpy(odd_ring + 1, ring, TOLLMEANDER_PAGE_SIZE);
+    memcpy(odd_grants + 1, grants, sizeof grants);
+    memcpy(odd_window + 1, window, sizeof window);
+    spoil_report();
+    REPORTS(tollmeander_transmit_take(&consumed, &halted, odd_ring + 1, TOLLMEANDER_PAGE_SIZE,
+                                      odd_grants + 1, sizeof grants, odd_window + 1,
+                                      sizeof window, frame + 1, 60, &lent.report),
+            TOLLMEANDER_DONE, 0, 0, 1, 1, 60, 0);
+    CHECK(memcmp(frame + 1, window + 3 * TOLLMEANDER_PAGE_SIZE + 1, 60) == 0);
+}
+
+int main(void)
+{
+    check_done();
+    check_refusals();
+    check_halting();
+    check_causes();
+    check_receive_done();
+    check_receive_refusals();
+    check_packet_slots();
+    check_empty_buffers();
+    check_odd_addresses();
+    return check_result("layout");
+}

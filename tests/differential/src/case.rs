@@ -1,0 +1,129 @@
+//! A case: what is lent to one call. An answer: what the call gave back and left.
+
+use reference::calls::{receive_put, transmit_take, Ring, Words};
+use reference::ring::{posted, slots, PAGE_BYTES, RING_SLOTS};
+use reference::slots::{RECEIVE_WIDTH, TRANSMIT_WIDTH};
+use std::fmt;
+
+/// A queue's numbers for one ring, and the buffers lent with it.
+#[derive(Clone)]
+pub struct State {
+    pub consumed: u32,
+    pub halted: u32,
+    pub page: Vec<u8>,
+    pub grants: Vec<u8>,
+    pub window: Vec<u8>,
+    pub frame: Vec<u8>,
+}
+
+#[derive(Clone)]
+pub struct Case {
+    pub ring: Ring,
+    pub before: State,
+}
+
+pub struct Answer {
+    pub returned: u32,
+    pub words: Words,
+    pub after: State,
+}
+
+/// Counter, mark, ring page, grant table, window and frame, as the second program's calls take them.
+type Take = fn(&mut u32, &mut u32, &mut [u8], &[u8], &[u8], &mut [u8]) -> Words;
+type Put = fn(&mut u32, &mut u32, &mut [u8], &[u8], &mut [u8], &[u8]) -> Words;
+
+/// The second program's two calls. The mutants have others.
+#[derive(Clone, Copy)]
+pub struct Second {
+    pub take: Take,
+    pub put: Put,
+}
+
+/// The second program as it is meant.
+pub const REFERENCE: Second = Second { take: transmit_take, put: receive_put };
+
+impl Second {
+    /// The answer to a case.
+    pub fn answer(&self, case: &Case) -> Answer {
+        let mut after = case.before.clone();
+        let State { consumed, halted, page, grants, window, frame } = &mut after;
+        let words = match case.ring {
+            Ring::Transmit => (self.take)(consumed, halted, page, grants, window, frame),
+            Ring::Receive => (self.put)(consumed, halted, page, grants, window, frame),
+        };
+        Answer { returned: words[0], words, after }
+    }
+}
+
+/// The first difference between an answer and the one expected.
+pub fn difference(expected: &Answer, found: &Answer) -> Option<String> {
+    let numbers = [
+        ("returned", expected.returned, found.returned),
+        ("consumed", expected.after.consumed, found.after.consumed),
+        ("halted", expected.after.halted, found.after.halted),
+    ];
+    if expected.words != found.words {
+        return Some(format!("report: expected {:?}, found {:?}", expected.words, found.words));
+    }
+    if let Some((name, expected, found)) = numbers.into_iter().find(|(_, expected, found)| expected != found)
+    {
+        return Some(format!("{name}: expected {expected}, found {found}"));
+    }
+    let buffers = [
+        ("ring page", &expected.after.page, &found.after.page),
+        ("grant table", &expected.after.grants, &found.after.grants),
+        ("window", &expected.after.window, &found.after.window),
+        ("frame", &expected.after.frame, &found.after.frame),
+    ];
+    buffers.into_iter().find_map(|(name, expected, found)| buffer_difference(name, expected, found))
+}
+
+fn buffer_difference(name: &str, expected: &[u8], found: &[u8]) -> Option<String> {
+    if expected == found {
+        return None;
+    }
+    let differ: Vec<usize> = (0..expected.len()).filter(|&at| expected[at] != found[at]).collect();
+    let at = differ[0];
+    let (expected, found) = (expected[at], found[at]);
+    Some(format!(
+        "{name}: byte {at}: expected {expected:02x}, found {found:02x} ({} bytes differ)",
+        differ.len()
+    ))
+}
+
+/// The most slots and grant words that a printed case shows.
+const SHOWN: usize = 20;
+
+impl fmt::Display for Case {
+    fn fmt(&self, f: &mut fmt::Formatter) -> fmt::Result {
+        let State { consumed, halted, page, grants, window, frame } = &self.before;
+        writeln!(f, "  {:?} call, consumed {consumed}, halted {halted}", self.ring)?;
+        let lengths = (page.len(), grants.len(), window.len(), frame.len());
+        writeln!(f, "  bytes of ring page, grant table, window, frame: {lengths:?}")?;
+        if page.len() != PAGE_BYTES {
+            return Ok(());
+        }
+        writeln!(f, "  req_prod, req_event, rsp_prod, rsp_event: {:02x?}", &page[..16])?;
+        let posted = posted(page, (*consumed).into());
+        writeln!(f, "  posted {posted}; slots from the counter on:")?;
+        for (n, slot) in self.slots(posted.min(RING_SLOTS)).iter().enumerate().take(SHOWN) {
+            writeln!(f, "    {n:3}: {slot:02x?}")?;
+        }
+        writeln!(f, "  grant words:")?;
+        for (g, word) in grants.chunks(4).enumerate().take(SHOWN) {
+            writeln!(f, "    {g:3}: {word:02x?}")?;
+        }
+        Ok(())
+    }
+}
+
+impl Case {
+    /// The bytes of `count` slots from the counter on.
+    fn slots(&self, count: u64) -> Vec<Vec<u8>> {
+        let (page, from) = (&self.before.page, self.before.consumed.into());
+        match self.ring {
+            Ring::Transmit => slots::<TRANSMIT_WIDTH>(page, from, count).iter().map(|s| s.to_vec()).collect(),
+            Ring::Receive => slots::<RECEIVE_WIDTH>(page, from, count).iter().map(|s| s.to_vec()).collect(),
+        }
+    }
+}

@@ -1,0 +1,273 @@
+//! Counts of the answers, causes and boundaries that the cases have reached, and the least that each must have.
+
+use crate::case::{Answer, Case};
+use crate::facts::Facts;
+use reference::calls::Ring;
+use reference::grants::{page_at, Access};
+use reference::report::*;
+use reference::slots::{data, extra};
+use reference::words::number;
+use std::collections::HashSet;
+use std::fmt;
+
+/// The answers and causes of each call. Cause 2 cannot occur, since a size has 16 bits.
+const TRANSMIT_ANSWERS: &[u32] = &[0, 1, 2, 3, 4, 5, 6, 7, 8];
+const TRANSMIT_CAUSES: &[u32] = &[1, 3, 4, 5, 6];
+const RECEIVE_ANSWERS: &[u32] = &[0, 1, 2, 3, 7, 9, 10];
+const RECEIVE_CAUSES: &[u32] = &[4];
+
+/// Each answer and cause is reached once in so many cases at least, and each boundary.
+const CASES_PER_ANSWER: u64 = 100;
+const CASES_PER_BOUNDARY: u64 = 2000;
+
+/// How often each answer was given, by number.
+pub type Answers = [u64; NAMES.len()];
+
+/// A boundary's name, and whether a case is at it.
+type Boundary = (&'static str, fn(&Facts) -> bool);
+
+/// Boundaries of both calls.
+const COMMON: &[Boundary] = &[
+    ("ring page of 0 bytes", |f| f.before.page.is_empty()),
+    ("ring page of 4095 bytes", |f| f.before.page.len() == 4095),
+    ("ring page of 4097 bytes", |f| f.before.page.len() == 4097),
+    ("bad page of a halted queue", |f| f.answer() == BAD_PAGE && f.before.halted != 0),
+    ("mark neither 0 nor 1", |f| f.answer() == HALTED_ALREADY && f.before.halted > 1),
+    ("posted 0", |f| f.posted == Some(0)),
+    ("posted 1", |f| f.posted == Some(1)),
+    ("posted 17", |f| f.posted == Some(17)),
+    ("posted 18", |f| f.posted == Some(18)),
+    ("posted 19", |f| f.posted == Some(19)),
+    ("posted 255", |f| f.posted == Some(255)),
+    ("posted 256", |f| f.posted == Some(256)),
+    ("posted 257", |f| f.posted == Some(257)),
+    ("posted 2^31 or more", |f| f.posted >= Some(1 << 31)),
+    ("replies across the 32-bit wrap", |f| f.before.consumed.checked_add(f.slots()).is_none()),
+    ("replies across the ring's end", |f| f.before.consumed % 256 + f.slots() > 256),
+    ("replies where rsp_prod is not the counter", |f| {
+        f.slots() > 0 && number(&f.before.page, 8, 4) != f.before.consumed.into()
+    }),
+    ("rsp_event at the old counter", |f| f.event_at(0)),
+    ("rsp_event one past the old counter", |f| f.event_at(1)),
+    ("rsp_event at the new counter", |f| f.event_at(f.slots())),
+    ("rsp_event one past the new counter", |f| f.event_at(f.slots() + 1)),
+    ("grant table with a spare tail", |f| f.slots() > 0 && f.before.grants.len() % 4 != 0),
+    ("window with a spare tail", |f| f.slots() > 0 && f.before.window.len() % 4096 != 0),
+    ("unfit: grant table of 0 bytes", |f| f.unfit().is_some() && f.before.grants.is_empty()),
+    ("unfit: window of 0 bytes", |f| f.unfit().is_some() && f.before.window.is_empty()),
+    ("unfit: no grant word", |f| f.unfit().is_some() && f.unfit_word().is_none()),
+    ("unfit: word in the spare tail", |f| {
+        let length = f.before.grants.len() as u64;
+        f.unfit().is_some_and(|gref| 4 * gref < length && length < 4 * gref + 4)
+    }),
+    ("unfit: word past 2^32 bytes", |f| f.unfit() >= Some(1 << 30)),
+    ("unfit: not granted", |f| f.unfit_word().is_some() && f.unfit_page().is_none()),
+    ("unfit: page past the window", |f| f.unfit_page() >= Some(f.before.window.len() as u64)),
+    ("unfit: page in the spare tail", |f| {
+        let length = f.before.window.len() as u64;
+        f.unfit_page().is_some_and(|at| at < length && length < at + 4096)
+    }),
+    ("unfit: page past 2^32 bytes", |f| f.unfit_page() >= Some(1 << 32)),
+];
+
+/// Boundaries of the transmit call.
+const TRANSMIT: &[Boundary] = &[
+    ("done: 18 slots, no extra", |f| f.packet_is(DONE, |p| p.slots == 18 && p.extras == 0)),
+    ("done: 18 slots with extras", |f| f.packet_is(DONE, |p| p.slots == 18 && p.extras > 0)),
+    ("done: 17 extras", |f| f.packet_is(DONE, |p| p.extras == 17)),
+    ("done: several extras", |f| f.packet_is(DONE, |p| p.extras > 1)),
+    ("done: more is posted behind the packet", |f| f.answer() == DONE && f.posted > Some(f.slots().into())),
+    ("waiting: 1 slot", |f| f.answer() == WAITING && f.posted == Some(1)),
+    ("waiting: 17 slots", |f| f.answer() == WAITING && f.posted == Some(17)),
+    ("misshapen: extra of type 0", |f| f.fault_is(|x| x.extra_due && extra(&x.slot).kind == 0)),
+    ("misshapen: extra of type 2", |f| f.fault_is(|x| x.extra_due && extra(&x.slot).kind == 2)),
+    ("misshapen: bit 3 on a later slot", |f| {
+        f.fault_is(|x| x.number > 1 && !x.extra_due && data(&x.slot).extra_follows)
+    }),
+    ("misshapen: bit 2 in place 18, no extra", |f| {
+        f.fault_is(|x| x.number == 18 && !x.first.extra_follows && data(&x.slot).more_data)
+    }),
+    ("misshapen: bit 2 in place 18 after extras", |f| {
+        f.fault_is(|x| x.number == 18 && x.first.extra_follows && !x.extra_due && data(&x.slot).more_data)
+    }),
+    ("misshapen: extra goes on in place 17, data owed", |f| {
+        f.fault_is(|x| x.number == 17 && x.extra_due && x.first.more_data && extra(&x.slot).kind == 1)
+    }),
+    ("misshapen: in place 17, 17 posted", |f| f.posted == Some(17) && f.fault_is(|x| x.number == 17)),
+    ("misshapen: extra goes on in place 18", |f| {
+        f.fault_is(|x| x.number == 18 && x.extra_due && !x.first.more_data && extra(&x.slot).kind == 1)
+    }),
+    ("cause 1: total 13", |f| f.cause() == 1 && f.packet_is(SPOILED, |p| p.total == 13)),
+    ("done: total 14", |f| f.packet_is(DONE, |p| p.total == 14)),
+    ("done: total 65535", |f| f.packet_is(DONE, |p| p.total == 65_535)),
+    ("done: later sizes equal the total", |f| f.packet_is(DONE, |p| p.later_sizes == p.total)),
+    ("cause 3: later sizes one more than the total", |f| {
+        f.cause() == 3 && f.packet_is(SPOILED, |p| p.later_sizes == p.total + 1)
+    }),
+    ("cause 3: later sizes above 65535", |f| {
+        f.cause() == 3 && f.packet_is(SPOILED, |p| p.later_sizes > 65_535)
+    }),
+    ("cause 4: slot without bytes", |f| f.cause() == 4 && f.concerned().is_some_and(|x| x.part == 0)),
+    ("cause 4: first slot without bytes", |f| {
+        f.cause() == 4 && f.concerned().is_some_and(|x| x.place == 0 && x.part == 0)
+    }),
+    ("cause 4: slot behind extras", |f| {
+        f.cause() == 4 && f.words[2] > 0 && f.packet_is(SPOILED, |p| p.extras > 0)
+    }),
+    ("done: offset plus part 4096", |f| {
+        f.packet_is(DONE, |p| p.pieces.iter().any(|x| x.offset + x.part == 4096))
+    }),
+    ("done: offset 4096, no bytes", |f| {
+        f.packet_is(DONE, |p| p.pieces.iter().any(|x| x.offset == 4096 && x.part == 0))
+    }),
+    ("cause 5: offset plus part 4097", |f| {
+        f.cause() == 5 && f.concerned().is_some_and(|x| x.offset + x.part == 4097)
+    }),
+    ("cause 5: offset 4097, no bytes", |f| {
+        f.cause() == 5 && f.concerned().is_some_and(|x| x.offset == 4097 && x.part == 0)
+    }),
+    ("cause 5: offset plus part above 65535", |f| {
+        f.cause() == 5 && f.concerned().is_some_and(|x| x.offset + x.part > 65_535)
+    }),
+    ("cause 6: gso size 0", |f| {
+        f.cause() == 6 && f.packet_is(SPOILED, |p| p.last_extra.is_some_and(|x| x.gso_size == 0))
+    }),
+    ("cause 6: gso type 0", |f| {
+        f.cause() == 6 && f.packet_is(SPOILED, |p| p.last_extra.is_some_and(|x| x.gso_type == 0))
+    }),
+    ("cause 6: gso type 3", |f| {
+        f.cause() == 6 && f.packet_is(SPOILED, |p| p.last_extra.is_some_and(|x| x.gso_type == 3))
+    }),
+    ("done: frame buffer of the total", |f| {
+        f.answer() == DONE && f.before.frame.len() == f.words[5] as usize
+    }),
+    ("no room: one byte short", |f| {
+        let short = f.before.frame.len() as i64 + 1;
+        f.answer() == NO_ROOM && f.packet.as_ref().is_some_and(|p| p.total == short)
+    }),
+    ("no room: frame buffer of 0 bytes", |f| f.answer() == NO_ROOM && f.before.frame.is_empty()),
+    ("spoiled: frame buffer too short as well", |f| {
+        let length = f.before.frame.len() as i64;
+        f.answer() == SPOILED && f.packet.as_ref().is_some_and(|p| p.total > length)
+    }),
+];
+
+/// Boundaries of the receive call.
+const RECEIVE: &[Boundary] = &[
+    ("frame of 0 bytes", |f| f.answer() == BAD_LENGTH && f.before.frame.is_empty()),
+    ("frame of 13 bytes", |f| f.answer() == BAD_LENGTH && f.before.frame.len() == 13),
+    ("frame of 65536 bytes", |f| f.answer() == BAD_LENGTH && f.before.frame.len() == 65_536),
+    ("bad length of a halted queue", |f| f.answer() == BAD_LENGTH && f.before.halted != 0),
+    ("done: 14 bytes", |f| f.answer() == DONE && f.words[5] == 14),
+    ("done: 4096 bytes", |f| f.answer() == DONE && f.words[5] == 4096),
+    ("done: 4097 bytes", |f| f.answer() == DONE && f.words[5] == 4097),
+    ("done: 65535 bytes", |f| f.answer() == DONE && f.words[5] == 65_535),
+    ("done: no request left", |f| f.answer() == DONE && f.posted == Some(f.slots().into())),
+    ("done: one page named twice", |f| {
+        let page = |&gref: &u64| page_at(&f.before.grants, &f.before.window, gref, Access::Write);
+        let pages: HashSet<Option<usize>> = f.requests.iter().map(page).collect();
+        f.answer() == DONE && pages.len() < f.requests.len()
+    }),
+    ("no buffers: one request too few", |f| {
+        let needed = f.before.frame.len().div_ceil(4096) as u64;
+        f.answer() == NO_BUFFERS && f.posted == Some(needed - 1)
+    }),
+    ("unfit: read-only", |f| {
+        let page = |gref| page_at(&f.before.grants, &f.before.window, gref, Access::Read);
+        f.unfit().is_some_and(|gref| page(gref).is_some())
+    }),
+    ("unfit: the last of several", |f| f.cause() == 4 && f.words[2] > 0 && f.words[2] + 1 == f.slots()),
+];
+
+/// The counts of one call.
+struct Tally {
+    ring: Ring,
+    answers: Answers,
+    causes: [u64; 7],
+    boundaries: Vec<(Boundary, u64)>,
+}
+
+pub struct Coverage {
+    cases: u64,
+    transmit: Tally,
+    receive: Tally,
+}
+
+impl Tally {
+    fn new(ring: Ring, own: &[Boundary]) -> Tally {
+        let boundaries = COMMON.iter().chain(own).map(|&boundary| (boundary, 0)).collect();
+        Tally { ring, answers: [0; NAMES.len()], causes: [0; 7], boundaries }
+    }
+
+    fn count(&mut self, facts: &Facts) {
+        self.answers[facts.answer() as usize] += 1;
+        self.causes[facts.cause() as usize] += u64::from(facts.answer() == SPOILED);
+        for ((_, holds), count) in &mut self.boundaries {
+            *count += u64::from(holds(facts));
+        }
+    }
+
+    /// A line for each answer, cause and boundary: what it is, its count, and the least for so many cases.
+    fn lines(&self, cases: u64) -> Vec<(String, u64, u64)> {
+        let (answers, causes) = match self.ring {
+            Ring::Transmit => (TRANSMIT_ANSWERS, TRANSMIT_CAUSES),
+            Ring::Receive => (RECEIVE_ANSWERS, RECEIVE_CAUSES),
+        };
+        let least = cases / CASES_PER_ANSWER;
+        let answer =
+            |&a: &u32| (format!("answer {a} {}", NAMES[a as usize]), self.answers[a as usize], least);
+        let cause = |&c: &u32| (format!("cause {c}"), self.causes[c as usize], least);
+        let boundary =
+            |&((name, _), count): &(Boundary, u64)| (name.to_string(), count, cases / CASES_PER_BOUNDARY);
+        let lines = answers.iter().map(answer).chain(causes.iter().map(cause));
+        lines.chain(self.boundaries.iter().map(boundary)).collect()
+    }
+}
+
+impl Coverage {
+    pub fn new() -> Coverage {
+        let transmit = Tally::new(Ring::Transmit, TRANSMIT);
+        let receive = Tally::new(Ring::Receive, RECEIVE);
+        Coverage { cases: 0, transmit, receive }
+    }
+
+    pub fn count(&mut self, case: &Case, answer: &Answer) {
+        let facts = Facts::new(case, answer);
+        self.cases += 1;
+        match case.ring {
+            Ring::Transmit => self.transmit.count(&facts),
+            Ring::Receive => self.receive.count(&facts),
+        }
+    }
+
+    /// The answers, causes and boundaries that were reached too seldom.
+    pub fn shortfalls(&self) -> Vec<String> {
+        let mut found = Vec::new();
+        for tally in [&self.transmit, &self.receive] {
+            for (name, count, least) in tally.lines(self.cases) {
+                if count < least {
+                    found.push(format!("{:?}: {name}: {count} cases, at least {least} wanted", tally.ring));
+                }
+            }
+        }
+        found
+    }
+}
+
+impl Default for Coverage {
+    fn default() -> Coverage {
+        Coverage::new()
+    }
+}
+
+impl fmt::Display for Coverage {
+    fn fmt(&self, f: &mut fmt::Formatter) -> fmt::Result {
+        for tally in [&self.transmit, &self.receive] {
+            writeln!(f, "{:?} calls", tally.ring)?;
+            for (name, count, _) in tally.lines(self.cases) {
+                writeln!(f, "  {count:8} {name}")?;
+            }
+        }
+        Ok(())
+    }
+}

@@ -1,0 +1,93 @@
+//! What the cases of both rings share: counters, marks, lengths, and the ring page.
+
+use crate::bytes::{put, put_u32};
+use crate::case::{Case, State};
+use crate::guest::Guest;
+use crate::random::Random;
+use reference::calls::Ring;
+use reference::ring::{slot_at, PAGE_BYTES};
+
+/// Marks of a halted queue.
+const MARKS: [u32; 5] = [1, 2, 0x100, 0x8000_0000, u32::MAX];
+/// Lengths that no ring page has.
+const WRONG_LENGTHS: [usize; 9] = [0, 1, 15, 64, 4095, 4095, 4097, 4097, 8192];
+/// More slots than a ring holds.
+const OVERFLOWS: [u32; 7] = [257, 257, 258, 512, 0x7FFF_FFFF, 0x8000_0000, u32::MAX];
+
+/// Everything lent to a call but the slots that matter to it.
+pub struct Lending {
+    pub guest: Guest,
+    pub halted: u32,
+    pub page_bytes: usize,
+    pub posted: u32,
+    pub frame_bytes: usize,
+}
+
+/// Refusals that look at neither slots nor frame.
+#[derive(Clone, Copy, PartialEq, Eq)]
+pub enum Refusal {
+    BadPage,
+    HaltedAlready,
+    Overflow,
+}
+
+impl Lending {
+    pub fn new(guest: Guest, posted: usize, frame_bytes: usize) -> Lending {
+        Lending { guest, halted: 0, page_bytes: PAGE_BYTES, posted: posted as u32, frame_bytes }
+    }
+
+    pub fn refuse(&mut self, random: &Random, refusal: Refusal) {
+        match refusal {
+            Refusal::BadPage => self.page_bytes = random.pick(&WRONG_LENGTHS),
+            Refusal::HaltedAlready => self.halted = random.pick(&MARKS),
+            Refusal::Overflow => self.posted = random.pick(&OVERFLOWS),
+        }
+    }
+
+    /// Leaves less than a page of the window, or at most one word of the grant table.
+    fn shorten(&mut self, random: &Random) {
+        if random.one_in(2) {
+            self.guest.window.truncate(random.pick(&[0, 0, 1, 4095]));
+        } else {
+            self.guest.grants.truncate(random.pick(&[0, 0, 1, 3, 4]));
+        }
+    }
+
+    /// The case with these slots from the counter on.
+    pub fn case<const WIDTH: usize>(mut self, random: &Random, ring: Ring, slots: &[[u8; WIDTH]]) -> Case {
+        if random.one_in(16) {
+            self.shorten(random);
+        }
+        let consumed = counter(random);
+        let page = self.page(random, consumed, slots);
+        let frame = random.bytes(self.frame_bytes);
+        let Guest { grants, window, .. } = self.guest;
+        Case { ring, before: State { consumed, halted: self.halted, page, grants, window, frame } }
+    }
+
+    /// A page of random bytes but for req_prod, rsp_event and the slots.
+    fn page<const WIDTH: usize>(&self, random: &Random, consumed: u32, slots: &[[u8; WIDTH]]) -> Vec<u8> {
+        let mut page = random.bytes(self.page_bytes);
+        put_u32(&mut page, 0, consumed.wrapping_add(self.posted));
+        put_u32(&mut page, 12, event_near(random, consumed, slots.len()));
+        if random.one_in(2) {
+            put_u32(&mut page, 8, consumed);
+        }
+        for (n, slot) in (u64::from(consumed)..).zip(slots) {
+            put(&mut page, slot_at(WIDTH, n), slot);
+        }
+        page
+    }
+}
+
+/// A counter, mostly just before the 32-bit wrap or the end of the ring.
+pub fn counter(random: &Random) -> u32 {
+    let around = random.pick(&[0, 0, 0x8000_0000, random.u32() << 8, random.u32()]);
+    around.wrapping_sub(random.below(24) as u32)
+}
+
+/// An rsp_event, mostly where the notify test turns for so many replies.
+pub fn event_near(random: &Random, consumed: u32, replies: usize) -> u32 {
+    let replies = replies as u32;
+    consumed.wrapping_add(random.pick(&[0, 1, replies, replies + 1, u32::MAX, random.u32()]))
+}

@@ -1,0 +1,163 @@
+//! The library under test, called over its C interface with every buffer in guarded memory.
+
+use crate::case::{Answer, Case, State};
+use crate::guarded::{Guarded, Placed, Placement};
+use reference::calls::{Ring, Words};
+
+extern "C" {
+    fn tollmeander_transmit_take(
+        consumed: *mut u32,
+        halted: *mut u32,
+        ring: *mut u8,
+        ring_len: usize,
+        grants: *const u8,
+        grants_len: usize,
+        window: *const u8,
+        window_len: usize,
+        frame: *mut u8,
+        frame_len: usize,
+        report: *mut Words,
+    ) -> u32;
+
+    fn tollmeander_receive_put(
+        consumed: *mut u32,
+        halted: *mut u32,
+        ring: *mut u8,
+        ring_len: usize,
+        grants: *const u8,
+        grants_len: usize,
+        window: *mut u8,
+        window_len: usize,
+        frame: *const u8,
+        frame_len: usize,
+        report: *mut Words,
+    ) -> u32;
+}
+
+/// The parameters of both calls: addresses, and lengths in bytes.
+pub struct Parameters {
+    pub consumed: *mut u32,
+    pub halted: *mut u32,
+    pub page: (*mut u8, usize),
+    pub grants: (*const u8, usize),
+    pub window: (*mut u8, usize),
+    pub frame: (*mut u8, usize),
+    pub report: *mut Words,
+}
+
+/// Calls the library.
+///
+/// # Safety
+///
+/// Each address has its length's bytes, no two buffers overlap, and the addresses of words are aligned.
+pub unsafe fn call(ring: Ring, parameters: &Parameters) -> u32 {
+    let &Parameters { consumed, halted, page, grants, window, frame, report } = parameters;
+    let ((p, p_len), (g, g_len), (w, w_len), (f, f_len)) = (page, grants, window, frame);
+    match ring {
+        Ring::Transmit => {
+            tollmeander_transmit_take(consumed, halted, p, p_len, g, g_len, w, w_len, f, f_len, report)
+        }
+        Ring::Receive => {
+            tollmeander_receive_put(consumed, halted, p, p_len, g, g_len, w, w_len, f, f_len, report)
+        }
+    }
+}
+
+/// Pages of memory for each byte buffer: enough for the largest case.
+const PAGES: usize = 24;
+/// What the report's bytes hold before a call, which must write them all.
+const STALE: [u8; 40] = [0xC3; 40];
+
+/// Guarded memory for the parameters of a call.
+pub struct Library {
+    consumed: Guarded,
+    halted: Guarded,
+    page: Guarded,
+    grants: Guarded,
+    window: Guarded,
+    frame: Guarded,
+    report: Guarded,
+}
+
+/// Where a case's parameters are in guarded memory.
+struct Places {
+    consumed: Placed,
+    halted: Placed,
+    page: Placed,
+    grants: Placed,
+    window: Placed,
+    frame: Placed,
+    report: Placed,
+}
+
+impl Library {
+    pub fn new() -> Library {
+        let words = || Guarded::new(1, 4);
+        let bytes = || Guarded::new(PAGES, 1);
+        Library {
+            consumed: words(),
+            halted: words(),
+            page: bytes(),
+            grants: bytes(),
+            window: bytes(),
+            frame: bytes(),
+            report: words(),
+        }
+    }
+
+    /// The library's answer to a case, or what it touched beside its buffers.
+    pub fn answer(&mut self, case: &Case, placement: Placement) -> Result<Answer, String> {
+        let places = self.place(&case.before, placement);
+        // SAFETY: each parameter has guarded memory of its own, in which it is placed with its length.
+        let returned = unsafe { call(case.ring, &self.parameters(&places, &case.before)) };
+        self.read(&places, returned)
+    }
+
+    fn place(&mut self, before: &State, placement: Placement) -> Places {
+        Places {
+            consumed: self.consumed.place(&before.consumed.to_ne_bytes(), placement),
+            halted: self.halted.place(&before.halted.to_ne_bytes(), placement),
+            page: self.page.place(&before.page, placement),
+            grants: self.grants.place(&before.grants, placement),
+            window: self.window.place(&before.window, placement),
+            frame: self.frame.place(&before.frame, placement),
+            report: self.report.place(&STALE, placement),
+        }
+    }
+
+    fn parameters(&self, places: &Places, before: &State) -> Parameters {
+        Parameters {
+            consumed: self.consumed.pointer(places.consumed).cast(),
+            halted: self.halted.pointer(places.halted).cast(),
+            page: (self.page.pointer(places.page), before.page.len()),
+            grants: (self.grants.pointer(places.grants), before.grants.len()),
+            window: (self.window.pointer(places.window), before.window.len()),
+            frame: (self.frame.pointer(places.frame), before.frame.len()),
+            report: self.report.pointer(places.report).cast(),
+        }
+    }
+
+    fn read(&mut self, places: &Places, returned: u32) -> Result<Answer, String> {
+        let read = |memory: &mut Guarded, placed, name: &str| {
+            memory.contents(placed).ok_or_else(|| format!("bytes beside {name} were written"))
+        };
+        let word = |bytes: &[u8]| u32::from_ne_bytes(bytes.try_into().expect("four bytes"));
+        let report = read(&mut self.report, places.report, "the report")?;
+        let words: Vec<u32> = report.chunks(4).map(word).collect();
+        let after = State {
+            consumed: word(&read(&mut self.consumed, places.consumed, "the counter")?),
+            halted: word(&read(&mut self.halted, places.halted, "the mark")?),
+            page: read(&mut self.page, places.page, "the ring page")?,
+            grants: read(&mut self.grants, places.grants, "the grant table")?,
+            window: read(&mut self.window, places.window, "the window")?,
+            frame: read(&mut self.frame, places.frame, "the frame")?,
+        };
+        Ok(Answer { returned, words: words.try_into().expect("ten words"), after })
+    }
+}
+
+impl Default for Library {
+    fn default() -> Library {
+        Library::new()
+    }
+}

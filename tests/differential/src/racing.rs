@@ -1,0 +1,228 @@
+//! A guest that rewrites the ring page while the library reads it. Document 01 rules this out; a host that lends
+//! the live page must still not be harmed: nothing outside the buffers is touched, and every call ends.
+
+use crate::coverage::Answers;
+use crate::guarded::Guarded;
+use crate::library::{call, Parameters};
+use crate::random::Random;
+use reference::calls::Ring;
+use reference::report::{DONE, NAMES, SPOILED};
+use reference::ring::{slot_at, PAGE_BYTES};
+use reference::slots::{RECEIVE_WIDTH, TRANSMIT_WIDTH};
+use std::sync::atomic::{AtomicBool, AtomicU16, AtomicU32, AtomicU64, Ordering::Relaxed};
+use std::thread;
+use std::time::{Duration, Instant};
+
+/// A call that has not ended after so long never will.
+const CALL_TIMEOUT: Duration = Duration::from_secs(10);
+/// Slots from the counter on that are posted and rewritten: all that a call reads.
+const RACED_SLOTS: usize = 20;
+/// The guest's longest pause between two rewrites, in turns of a loop.
+const LONGEST_PAUSE: usize = 40;
+/// Rewrites with pauses in a loop, then rewrites with sleeps, in turn; and rewrites to one sleep.
+const SPINNING: u64 = 10_000;
+const SLEEPING: u64 = 2000;
+const REWRITES_PER_SLEEP: u64 = 16;
+/// With fewer rewrites the guest has hardly run.
+const LEAST_REWRITES: u64 = 1000;
+
+const GRANTS_BYTES: usize = 4096;
+const WINDOW_BYTES: usize = 4 * 4096;
+/// Frame buffers: one for the largest frames, and one that is often too short.
+const FRAME_BYTES: [usize; 2] = [16 * 4096, 4096];
+/// Grant words: pages 0 to 3 of the window, one past it, the last there is, one not granted, one read only.
+const GRANT_WORDS: [u32; 8] = [0x03, 0x07, 0x0B, 0x0F, 0x13, 0xFFFF_FFFF, 0x06, 0x09];
+
+/// What the host's, the guest's and the watching thread share.
+struct Race {
+    ring: Ring,
+    page: Guarded,
+    grants: Guarded,
+    window: Guarded,
+    frames: [Guarded; 2],
+    consumed: AtomicU32,
+    calls: AtomicU64,
+    rewrites: AtomicU64,
+    over: AtomicBool,
+}
+
+// SAFETY: the threads reach the ring page by atomic words only, and the other buffers by the library's calls in the
+// host's thread only. The library itself reads and writes the page plainly while it changes: that is the test.
+unsafe impl Sync for Race {}
+
+/// Races on a ring for so long, and says how it went.
+pub fn race(ring: Ring, seed: u64, time: Duration) -> Result<String, String> {
+    let random = Random::new(seed, 0);
+    let grants = GRANT_WORDS.map(u32::to_le_bytes).concat().repeat(GRANTS_BYTES / 32);
+    let window = random.bytes(WINDOW_BYTES);
+    let mut race = Race {
+        ring,
+        page: Guarded::full(&random.bytes(PAGE_BYTES)),
+        grants: Guarded::full(&grants),
+        window: Guarded::full(&window),
+        frames: FRAME_BYTES.map(|length| Guarded::full(&random.bytes(length))),
+        consumed: AtomicU32::new(random.u32()),
+        calls: AtomicU64::new(0),
+        rewrites: AtomicU64::new(0),
+        over: AtomicBool::new(false),
+    };
+    let answers = race.run(seed, time)?;
+    if race.grants.memory() != grants {
+        return Err("the grant table was written".to_string());
+    }
+    if ring == Ring::Transmit && race.window.memory() != window {
+        return Err("a transmit call wrote to the window".to_string());
+    }
+    let rewrites = race.rewrites.load(Relaxed);
+    if answers[DONE as usize] == 0 || rewrites < LEAST_REWRITES {
+        return Err(format!("no race: answers by number {answers:?}, {rewrites} rewrites"));
+    }
+    Ok(format!("answers by number {answers:?}, {rewrites} rewrites"))
+}
+
+impl Race {
+    fn run(&self, seed: u64, time: Duration) -> Result<Answers, String> {
+        thread::scope(|scope| {
+            scope.spawn(|| self.guest(&Random::new(seed, 1)));
+            scope.spawn(|| self.watch());
+            let answers = self.host(&Random::new(seed, 2), time);
+            self.over.store(true, Relaxed);
+            answers
+        })
+    }
+
+    /// The ring page as words of 16 bits.
+    fn page_words(&self) -> &[AtomicU16] {
+        // SAFETY: the page is aligned and mapped as long as the race lasts.
+        unsafe { std::slice::from_raw_parts(self.page.start().cast(), PAGE_BYTES / 2) }
+    }
+
+    /// Posts slots that are in order and calls the library on what the guest makes of them.
+    fn host(&self, random: &Random, time: Duration) -> Result<Answers, String> {
+        let start = Instant::now();
+        let mut consumed = self.consumed.load(Relaxed);
+        let mut answers = [0; NAMES.len()];
+        while start.elapsed() < time {
+            self.consumed.store(consumed, Relaxed);
+            self.post(random, consumed);
+            let answer = self.call(random, &mut consumed);
+            self.calls.fetch_add(1, Relaxed);
+            let count = answers.get_mut(answer as usize).ok_or_else(|| format!("answer {answer}"))?;
+            *count += 1;
+            if answer != DONE && answer != SPOILED {
+                consumed = consumed.wrapping_add(1);
+            }
+        }
+        Ok(answers)
+    }
+
+    fn store(&self, at: usize, value: u16) {
+        self.page_words()[at / 2].store(value, Relaxed);
+    }
+
+    fn store_u32(&self, at: usize, value: u32) {
+        self.store(at, value as u16);
+        self.store(at + 2, (value >> 16) as u16);
+    }
+
+    /// Posts a packet, or as many requests as the largest frame needs.
+    fn post(&self, random: &Random, consumed: u32) {
+        let slots = random.between(1, 18);
+        let size = random.pick(&[60, 1000, 3640]);
+        for k in 0..RACED_SLOTS {
+            let n = u64::from(consumed) + k as u64;
+            let gref = random.below(4) as u32;
+            match self.ring {
+                Ring::Transmit => {
+                    let at = slot_at(TRANSMIT_WIDTH, n);
+                    self.store_u32(at, gref);
+                    self.store(at + 4, random.below(400) as u16);
+                    self.store(at + 6, if k + 1 < slots { 4 } else { 0 });
+                    self.store(at + 10, if k == 0 { size * slots as u16 } else { size });
+                }
+                Ring::Receive => self.store_u32(slot_at(RECEIVE_WIDTH, n) + 4, gref),
+            }
+        }
+        self.store_u32(0, consumed.wrapping_add(RACED_SLOTS as u32));
+    }
+
+    fn call(&self, random: &Random, consumed: &mut u32) -> u32 {
+        let (mut halted, mut report) = (0, [0; 10]);
+        let which = random.below(2);
+        let frame_bytes = match self.ring {
+            Ring::Transmit => FRAME_BYTES[which],
+            Ring::Receive => random.between(14, FRAME_BYTES[which] - 1),
+        };
+        let parameters = Parameters {
+            consumed,
+            halted: &mut halted,
+            page: (self.page.start(), PAGE_BYTES),
+            grants: (self.grants.start(), GRANTS_BYTES),
+            window: (self.window.start(), WINDOW_BYTES),
+            frame: (self.frames[which].start(), frame_bytes),
+            report: &mut report,
+        };
+        // SAFETY: the lengths are those of the buffers, which are apart. The page changes meanwhile.
+        unsafe { call(self.ring, &parameters) }
+    }
+
+    /// Rewrites fields of the slots that the host's call may be reading, until the race is over.
+    fn guest(&self, random: &Random) {
+        while !self.over.load(Relaxed) {
+            let ahead = random.below(RACED_SLOTS) as u32;
+            let n = self.consumed.load(Relaxed).wrapping_add(ahead).into();
+            match self.ring {
+                Ring::Transmit => self.rewrite_transmit_slot(random, slot_at(TRANSMIT_WIDTH, n)),
+                Ring::Receive => self.rewrite_reference(random, slot_at(RECEIVE_WIDTH, n) + 4),
+            }
+            let rewrites = self.rewrites.fetch_add(1, Relaxed);
+            pause(random, rewrites);
+        }
+    }
+
+    fn rewrite_transmit_slot(&self, random: &Random, at: usize) {
+        match random.below(5) {
+            0 => self.rewrite_reference(random, at),
+            1 => self.store(at + 4, random.pick(&[0, 0, 1, 400, 4000, 4095, 4096, 65_535])),
+            2 => self.store(at + 6, random.pick(&[0, 0, 4, 4, 8, 12])),
+            3 => self.store(at + 10, random.pick(&[0, 1, 13, 14, 60, 1000, 3640, 4096, 65_520, 65_535])),
+            _ => {
+                self.store(at, random.pick(&[1, 1, 0x0101]));
+                self.store(at + 2, random.pick(&[0, 1460]));
+                self.store(at + 4, random.pick(&[1, 2]));
+            }
+        }
+    }
+
+    fn rewrite_reference(&self, random: &Random, at: usize) {
+        self.store_u32(at, random.pick(&[0, 1, 2, 3, 0, 1, 2, 3, 4, 5, 6, 7, 1023, 1024, u32::MAX]));
+    }
+
+    /// Fails the test, by ending the process, when a call does not end.
+    fn watch(&self) {
+        let mut calls = 0;
+        let mut since = Instant::now();
+        while !self.over.load(Relaxed) {
+            thread::sleep(Duration::from_millis(20));
+            let now = self.calls.load(Relaxed);
+            if now != calls {
+                (calls, since) = (now, Instant::now());
+            } else if since.elapsed() > CALL_TIMEOUT {
+                eprintln!("differential: {:?} call {calls} has not ended after {CALL_TIMEOUT:?}", self.ring);
+                std::process::exit(1);
+            }
+        }
+    }
+}
+
+/// Waits between two rewrites. For a time in a loop, which races best on a core of its own; for a time by a short
+/// sleep after some rewrites, since on a shared core the guest wakes up in the midst of the host's call.
+fn pause(random: &Random, rewrites: u64) {
+    if rewrites % (SPINNING + SLEEPING) < SPINNING {
+        for _ in 0..random.below(LONGEST_PAUSE) {
+            std::hint::spin_loop();
+        }
+    } else if rewrites.is_multiple_of(REWRITES_PER_SLEEP) {
+        thread::sleep(Duration::from_micros(1));
+    }
+}

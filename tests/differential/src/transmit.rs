@@ -1,0 +1,145 @@
+//! Transmit cases: a good packet at the counter, then one change that aims at an answer, and sometimes a second.
+
+use crate::case::Case;
+use crate::guest::Guest;
+use crate::lending::{Lending, Refusal};
+use crate::packet::{Packet, Shape};
+use crate::random::Random;
+use reference::calls::Ring;
+use reference::grammar::LIMIT;
+
+/// The answer or cause that a change aims at. Where there are two changes, the earlier answer comes out.
+#[derive(Clone, Copy, PartialEq, Eq)]
+enum Aim {
+    Done,
+    Refused(Refusal),
+    Empty,
+    Misshapen,
+    TooLong,
+    Waiting,
+    Short,
+    SumTooLarge,
+    GrantUnfit,
+    OffsetTooLarge,
+    GsoBad,
+    NoRoom,
+    Noise,
+}
+
+const AIMS: [Aim; 16] = [
+    Aim::Done,
+    Aim::Done,
+    Aim::Refused(Refusal::BadPage),
+    Aim::Refused(Refusal::HaltedAlready),
+    Aim::Refused(Refusal::Overflow),
+    Aim::Empty,
+    Aim::Misshapen,
+    Aim::TooLong,
+    Aim::Waiting,
+    Aim::Short,
+    Aim::SumTooLarge,
+    Aim::GrantUnfit,
+    Aim::OffsetTooLarge,
+    Aim::GsoBad,
+    Aim::NoRoom,
+    Aim::Noise,
+];
+
+/// A case being made.
+struct Draft {
+    packet: Packet,
+    lending: Lending,
+}
+
+/// A transmit case.
+pub fn case(random: &Random) -> Case {
+    let aim = random.pick(&AIMS);
+    let mut draft = Draft::good(random, aim);
+    draft.change(random, aim);
+    if random.one_in(4) {
+        let second = random.pick(&AIMS);
+        draft.change(random, second);
+    }
+    draft.lending.case(random, Ring::Transmit, &draft.packet.slots)
+}
+
+/// The shape of a packet with at least so many extras and later slots.
+pub fn packet_shape(random: &Random, extras_needed: usize, later_needed: usize) -> Shape {
+    let needed = 1 + extras_needed + later_needed;
+    let slots = random.pick(&[1, 1, 2, 3, 4, random.between(1, LIMIT), 17, 18, 18]).max(needed);
+    let most = slots - 1 - later_needed;
+    let extras = random.pick(&[0, 1, 2, most, random.between(0, most)]).clamp(extras_needed, most);
+    Shape::packet(extras, slots - 1 - extras)
+}
+
+/// A shape of more than 18 slots, or one whose flags promise more than 18.
+pub fn long_shape(random: &Random) -> Shape {
+    let extras = random.pick(&[0, 1, 2, 15, 16, 17, 18, random.between(0, 18)]);
+    let open = Shape { extras, later: 0, more: true, extras_end: false, later_end: false };
+    match random.below(4) {
+        0 => Shape::packet(extras, random.between(LIMIT - extras, LIMIT + 2 - extras).max(1)),
+        1 => Shape { later: (LIMIT - 1).saturating_sub(extras), extras_end: true, ..open },
+        2 => Shape { extras: extras.max(1), ..open },
+        _ => Shape { extras: extras.max(1), more: false, ..open },
+    }
+}
+
+impl Draft {
+    /// A packet with the slots that the aim needs, lent so that it is done.
+    fn good(random: &Random, aim: Aim) -> Draft {
+        let pages = random.between(1, 4);
+        let guest = Guest::new(random, pages);
+        let extras = usize::from(aim == Aim::GsoBad || aim == Aim::Misshapen && random.one_in(2));
+        let later = usize::from(aim == Aim::SumTooLarge || aim == Aim::Misshapen && extras == 0);
+        let shape = packet_shape(random, extras, later);
+        let packet = Packet::new(random, &guest, shape);
+        let slots = packet.slots.len();
+        let posted = random.pick(&[slots, slots, slots + 1, 17, 18, 19, 255, 256, random.between(1, 256)]);
+        let total = packet.total();
+        let frame_bytes = random.pick(&[total, total, total + 1, total + 64, 65_535]);
+        Draft { packet, lending: Lending::new(guest, posted.max(slots), frame_bytes) }
+    }
+
+    fn change(&mut self, random: &Random, aim: Aim) {
+        match aim {
+            Aim::Done => {}
+            Aim::Refused(refusal) => self.lending.refuse(random, refusal),
+            Aim::Empty => self.lending.posted = 0,
+            Aim::Misshapen => self.packet.make_misshapen(random),
+            Aim::TooLong => {
+                let shape = long_shape(random);
+                let packet = Packet::new(random, &self.lending.guest, shape);
+                self.replace(random, packet);
+            }
+            Aim::Waiting => self.cut(random),
+            Aim::Short => self.packet.make_short(random),
+            Aim::SumTooLarge => self.packet.make_sum_too_large(random),
+            Aim::GrantUnfit => self.packet.make_grant_unfit(random, &self.lending.guest),
+            Aim::OffsetTooLarge => self.packet.make_offset_too_large(random),
+            Aim::GsoBad => self.packet.make_gso_bad(random),
+            Aim::NoRoom => {
+                let below = self.packet.total().saturating_sub(1);
+                self.lending.frame_bytes = random.pick(&[below, below, 0, random.between(0, below)]);
+            }
+            Aim::Noise => {
+                let count = random.between(1, 20);
+                let packet = Packet::noise(random, &self.lending.guest, count);
+                self.replace(random, packet);
+            }
+        }
+    }
+
+    /// Puts other slots in the packet's place, and posts up to all of them.
+    fn replace(&mut self, random: &Random, packet: Packet) {
+        let slots = packet.slots.len();
+        self.lending.posted = random.pick(&[slots, slots, slots.min(17), slots.min(18), slots + 1]) as u32;
+        self.packet = packet;
+    }
+
+    /// Posts only the packet's first slots.
+    fn cut(&mut self, random: &Random) {
+        self.packet.make_cuttable();
+        let most = (self.packet.slots.len() - 1).max(1);
+        self.lending.posted = random.pick(&[1, most, random.between(1, most)]) as u32;
+    }
+}

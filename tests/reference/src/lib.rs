@@ -1,0 +1,22 @@
+//! The second program: the backend side of one Xen network queue, written from document 01 alone, to be
+//! compared with the library.
+//!
+//! A call is a function from what is lent to an `Outcome`: a report, the queue, and the list of changes to the
+//! lent buffers. Nothing is written in place, so every byte that no rule names stays as found. Numbers are
+//! natural numbers in 64 bits, and counters are reduced modulo 2^32 where document 01 says so.
+
+#![deny(warnings)]
+#![forbid(unsafe_code)]
+
+pub mod calls;
+pub mod captures;
+pub mod examples;
+pub mod grammar;
+pub mod grants;
+pub mod receive;
+pub mod replay;
+pub mod report;
+pub mod ring;
+pub mod slots;
+pub mod transmit;
+pub mod words;

@@ -1,0 +1,255 @@
+//! Document 01's bench examples and traps, asked of the second program.
+
+#![deny(warnings)]
+
+use reference::calls::{receive_put, transmit_take, Words};
+use reference::grammar::{begins_packet, division, front, Front};
+use reference::replay::fnv1a;
+use reference::slots::{data, extra, Slot};
+use reference::words::number;
+
+const MORE: u16 = 4;
+const EXTRA: u16 = 8;
+
+/// A ring with a window of four pages, page p full of the byte p + 1; reference g names page g, all writable but 3.
+struct Bench {
+    consumed: u32,
+    halted: u32,
+    page: Vec<u8>,
+    grants: Vec<u8>,
+    window: Vec<u8>,
+    frame: Vec<u8>,
+}
+
+impl Bench {
+    fn new(consumed: u32, posted: u32) -> Bench {
+        let mut page = vec![0; 4096];
+        page[..4].copy_from_slice(&consumed.wrapping_add(posted).to_le_bytes());
+        page[8..12].copy_from_slice(&consumed.to_le_bytes());
+        let grants = [0x03_u32, 0x07, 0x0B, 0x0D].iter().flat_map(|word| word.to_le_bytes()).collect();
+        let window = (0..4 * 4096).map(|i| (i / 4096 + 1) as u8).collect();
+        Bench { consumed, halted: 0, page, grants, window, frame: vec![0xEE; 65_535] }
+    }
+
+    fn with_slots(consumed: u32, slots: &[Slot]) -> Bench {
+        let mut bench = Bench::new(consumed, slots.len() as u32);
+        for (n, slot) in (u64::from(consumed)..).zip(slots) {
+            let at = 64 + (n % 256) as usize * 12;
+            bench.page[at..at + 12].copy_from_slice(slot);
+        }
+        bench
+    }
+
+    fn with_requests(ids_and_grefs: &[(u16, u32)]) -> Bench {
+        let mut bench = Bench::new(0, ids_and_grefs.len() as u32);
+        for (n, (id, gref)) in ids_and_grefs.iter().enumerate() {
+            let at = 64 + n * 8;
+            bench.page[at..at + 2].copy_from_slice(&id.to_le_bytes());
+            bench.page[at + 4..at + 8].copy_from_slice(&gref.to_le_bytes());
+        }
+        bench
+    }
+
+    fn take(&mut self) -> Words {
+        let Bench { consumed, halted, page, grants, window, frame } = self;
+        transmit_take(consumed, halted, page, grants, window, frame)
+    }
+
+    fn put(&mut self, length: usize) -> Words {
+        let Bench { consumed, halted, page, grants, window, .. } = self;
+        let frame: Vec<u8> = (0..length).map(|i| (i / 4096 + 101) as u8).collect();
+        receive_put(consumed, halted, page, grants, window, &frame)
+    }
+}
+
+fn slot(gref: u32, offset: u16, flags: u16, id: u16, size: u16) -> Slot {
+    let mut slot = [0; 12];
+    slot[..4].copy_from_slice(&gref.to_le_bytes());
+    for (at, field) in (4..).step_by(2).zip([offset, flags, id, size]) {
+        slot[at..at + 2].copy_from_slice(&field.to_le_bytes());
+    }
+    slot
+}
+
+/// Data slots with sizes and flags, all from offset 0 of page 0.
+fn sized(sizes_and_flags: &[(u16, u16)]) -> Vec<Slot> {
+    sizes_and_flags.iter().map(|&(size, flags)| slot(0, 0, flags, 7, size)).collect()
+}
+
+/// An extra with gso size 1460 and gso type 1, of a type and with extra flags.
+fn gso(kind: u8, flags: u8) -> Slot {
+    [kind, flags, 0xB4, 0x05, 1, 0, 0, 0, 0x11, 0x22, 0x33, 0x44]
+}
+
+/// Answer, cause and place.
+fn verdict(words: Words) -> [u32; 3] {
+    [words[0], words[1], words[2]]
+}
+
+#[test]
+fn one_slot_is_read_and_replied_to() {
+    let bytes: Slot = [3, 0, 0, 0, 0x64, 0, 0, 0, 7, 0, 0x3C, 0];
+    let read = data(&bytes);
+    assert_eq!((read.gref, read.offset, read.id, read.size), (3, 100, 7, 60));
+    let mut good = Bench::with_slots(0, &[bytes]);
+    assert_eq!(good.take(), [0, 0, 0, 1, 0, 60, 0, 0, 0, 0]);
+    assert_eq!(good.page[64..68], [7, 0, 0, 0]);
+    assert_eq!(good.page[68..76], bytes[4..]);
+    assert_eq!(good.frame[..61], [[4; 60].as_slice(), &[0xEE]].concat());
+    let mut unfit = Bench::with_slots(0, &[slot(4, 100, 0, 7, 60)]);
+    assert_eq!(unfit.take(), [7, 4, 0, 1, 0, 0, 0, 0, 0, 0]);
+    assert_eq!(unfit.page[64..68], [7, 0, 0xFF, 0xFF]);
+}
+
+#[test]
+fn first_part_is_what_the_later_sizes_leave() {
+    let packet = |offset| [slot(0, offset, MORE, 1, 5000), slot(1, 0, MORE, 2, 1000), slot(2, 0, 0, 3, 500)];
+    let mut bench = Bench::with_slots(0, &packet(596));
+    assert_eq!(verdict(bench.take()), [0, 0, 0]);
+    assert_eq!(bench.frame[..5000], [vec![1; 3500], vec![2; 1000], vec![3; 500]].concat());
+    assert_eq!(verdict(Bench::with_slots(0, &packet(597)).take()), [7, 5, 0]);
+}
+
+#[test]
+fn totals_and_sums() {
+    let of = |slots: &[(u16, u16)]| verdict(Bench::with_slots(0, &sized(slots)).take());
+    assert_eq!(of(&[(13, 0)]), [7, 1, 0]);
+    assert_eq!(of(&[(14, 0)]), [0, 0, 0]);
+    assert_eq!(of(&[(100, MORE), (100, 0)]), [0, 0, 0]);
+    assert_eq!(of(&[(100, MORE), (101, 0)]), [7, 3, 0]);
+    assert_eq!(of(&[(13, MORE), (100, 0)]), [7, 1, 0]);
+}
+
+#[test]
+fn posted_runs_through_the_wrap() {
+    let slots = sized(&[(60, 0); 12]);
+    let mut bench = Bench::with_slots(4_294_967_290, &slots);
+    assert_eq!(number(&bench.page, 0, 4), 6);
+    for _ in 0..12 {
+        assert_eq!(verdict(bench.take()), [0, 0, 0]);
+    }
+    assert_eq!((bench.take()[0], bench.consumed), (4, 6));
+    assert_eq!(number(&bench.page, 4, 4), 7);
+}
+
+#[test]
+fn posted_256_is_taken_and_257_is_not() {
+    let mut full = Bench::with_slots(0, &sized(&[(60, 0); 256]));
+    assert_eq!(full.take()[0], 0);
+    let mut over = Bench::with_slots(0, &sized(&[(60, 0); 257]));
+    let before = over.page.clone();
+    assert_eq!((over.take()[0], over.halted, over.take()[0]), (3, 1, 2));
+    assert_eq!(over.page, before);
+}
+
+#[test]
+fn notify_from_250_to_253() {
+    for (rsp_event, notify) in [(250_u32, 0), (251, 1), (253, 1), (254, 0)] {
+        let mut bench = Bench::with_slots(250, &sized(&[(60, MORE), (1, MORE), (1, 0)]));
+        bench.page[12..16].copy_from_slice(&rsp_event.to_le_bytes());
+        assert_eq!(bench.take()[3..5], [3, notify], "rsp_event {rsp_event}");
+        assert_eq!(number(&bench.page, 8, 4), 253);
+    }
+}
+
+#[test]
+fn an_extra_asks_for_gso() {
+    let read = extra(&gso(1, 0));
+    assert_eq!((read.gso_size, read.gso_type), (1460, 1));
+    let mut bench = Bench::with_slots(0, &[slot(0, 0, EXTRA | 3, 5, 60), gso(1, 0)]);
+    assert_eq!(bench.take(), [0, 0, 0, 2, 0, 60, 1, 1, 1460, 1]);
+    assert_eq!(bench.page[76..80], [0, 0, 1, 0]);
+    for kind in [0, 2] {
+        assert_eq!(front(&[slot(0, 0, EXTRA, 5, 60), gso(kind, 0)]), Front::Misshapen);
+    }
+}
+
+#[test]
+fn eighteen_slots_and_no_more() {
+    let mut slots = sized(&[(100, MORE); 18]);
+    assert_eq!(front(&slots), Front::Misshapen);
+    assert_eq!(front(&slots[..17]), Front::Beginning);
+    slots[17] = slot(0, 0, 0, 7, 0);
+    assert_eq!(front(&slots), Front::Packet(18));
+}
+
+#[test]
+fn extras_up_to_the_seventeenth_place() {
+    let chain = |flags| [vec![slot(0, 0, flags, 7, 60)], vec![gso(1, 1); 17]].concat();
+    let (with_more, without) = (chain(EXTRA | MORE), chain(EXTRA));
+    assert!(begins_packet(&with_more[..16]));
+    assert!(!begins_packet(&with_more[..17]));
+    assert!(begins_packet(&without[..17]));
+    assert!(!begins_packet(&without[..18]));
+}
+
+#[test]
+fn a_run_is_divided_into_packets_and_a_rest() {
+    let run = [sized(&[(60, 0), (60, MORE), (1, 0), (60, MORE)]), vec![slot(0, 0, EXTRA, 7, 1)]].concat();
+    let (packets, rest) = division(&run[..4]);
+    assert_eq!(packets.iter().map(|packet| packet.len()).collect::<Vec<_>>(), [1, 2]);
+    assert!(rest.len() == 1 && begins_packet(rest));
+    assert!(!begins_packet(division(&run).1));
+}
+
+#[test]
+fn receive_replies_and_pieces() {
+    let mut one = Bench::with_requests(&[(9, 0)]);
+    assert_eq!(one.put(4096), [0, 0, 0, 1, 0, 4096, 0, 0, 0, 0]);
+    assert_eq!(one.page[64..72], [9, 0, 0, 0, 0, 0, 0, 0x10]);
+    let mut two = Bench::with_requests(&[(9, 0), (10, 2)]);
+    assert_eq!(two.put(4097)[..4], [0, 0, 0, 2]);
+    assert_eq!(two.page[64..80], [9, 0, 0, 0, 4, 0, 0, 0x10, 10, 0, 0, 0, 0, 0, 1, 0]);
+    assert_eq!(two.window[2 * 4096..2 * 4096 + 2], [102, 3]);
+    let mut read_only = Bench::with_requests(&[(9, 0), (10, 3)]);
+    assert_eq!(verdict(read_only.put(4097)), [7, 4, 1]);
+    assert_eq!(read_only.page[64..80], [9, 0, 0, 0, 0, 0, 0xFF, 0xFF, 10, 0, 0, 0, 0, 0, 0xFF, 0xFF]);
+    assert_eq!(read_only.window, Bench::new(0, 0).window);
+}
+
+#[test]
+fn receive_order_of_refusals() {
+    let of = |halted, length| {
+        let mut bench = Bench { halted, ..Bench::with_requests(&[(9, 4)]) };
+        verdict(bench.put(length))
+    };
+    assert_eq!(of(2, 13), [9, 0, 0]);
+    assert_eq!(of(2, 65_536), [9, 0, 0]);
+    assert_eq!(of(2, 14), [2, 0, 0]);
+    assert_eq!(of(0, 4097), [10, 0, 0]);
+    assert_eq!(of(0, 14), [7, 4, 0]);
+}
+
+/// Two requests for one page: the later write stands, and the earlier one's bytes behind it stay.
+#[test]
+fn the_later_write_stands() {
+    let mut bench = Bench::with_requests(&[(1, 0), (2, 0), (3, 0)]);
+    assert_eq!(bench.put(9000)[0], 0);
+    assert_eq!(bench.window[..4096], [vec![103; 808], vec![102; 3288]].concat());
+}
+
+#[test]
+fn waiting_whatever_cause_shows_already() {
+    let mut bench = Bench::with_slots(0, &[slot(99, 0, MORE, 7, 13)]);
+    assert_eq!(bench.take()[0], 6);
+    assert_eq!(number(&bench.page, 4, 4), 2);
+}
+
+#[test]
+fn no_room_changes_nothing_and_spoiled_goes_before() {
+    let mut short = Bench::with_slots(0, &sized(&[(60, 0)]));
+    short.frame.truncate(59);
+    let before = short.page.clone();
+    assert_eq!(short.take(), [8, 0, 0, 0, 0, 0, 0, 0, 0, 0]);
+    assert_eq!((short.page, short.consumed), (before, 0));
+    let mut spoiled = Bench::with_slots(0, &[slot(4, 0, 0, 7, 60)]);
+    spoiled.frame.clear();
+    assert_eq!(verdict(spoiled.take()), [7, 4, 0]);
+}
+
+#[test]
+fn checksums_of_known_bytes() {
+    assert_eq!(fnv1a(b""), 0x811c_9dc5);
+    assert_eq!(fnv1a(b"a"), 0xe40c_292c);
+    assert_eq!(fnv1a(b"foobar"), 0xbf9c_f968);
+}

@@ -1,0 +1,125 @@
+//! The second program on ring pages of real guests, against what the guests' own packet layer saw.
+//!
+//! TOLLMEANDER_CAPTURES names the folder of snapshots; without it, it is the replay program's data folder.
+
+#![deny(warnings)]
+
+mod sha256;
+
+use reference::calls::Ring;
+use reference::captures::{folders, load};
+use reference::grammar::LIMIT;
+use reference::replay::calls;
+use reference::report::{DONE, EMPTY, MISSHAPEN, NO_BUFFERS};
+use sha256::hex_digest;
+use std::collections::HashSet;
+use std::fs;
+use std::path::{Path, PathBuf};
+
+fn snapshots() -> Vec<PathBuf> {
+    let replay_data = Path::new(env!("CARGO_MANIFEST_DIR")).join("../../crates/replay/data");
+    let root = std::env::var_os("TOLLMEANDER_CAPTURES").map_or(replay_data, PathBuf::from);
+    let found = folders(&root).expect("a folder of snapshots");
+    assert!(!found.is_empty(), "no snapshots in {}", root.display());
+    found
+}
+
+/// A line of frames.txt: length, SHA-256, gso size and gso type as the ring has it.
+#[derive(Debug, PartialEq)]
+struct Frame {
+    length: usize,
+    digest: String,
+    gso_size: u32,
+    gso_type: u32,
+}
+
+fn frames(folder: &Path) -> Vec<Frame> {
+    let text = fs::read_to_string(folder.join("frames.txt")).expect("frames.txt");
+    text.lines().map(frame).collect()
+}
+
+fn frame(line: &str) -> Frame {
+    let fields: Vec<&str> = line.split_whitespace().collect();
+    let [_, length, digest, gso_type, gso_size] = fields[..] else { panic!("{line}") };
+    let after = |field: &str, name: &str| field.strip_prefix(name).expect(name).parse().expect("a number");
+    let linux_type: u32 = after(gso_type, "gso_type=");
+    let gso_type = match linux_type {
+        4 => 2,
+        other => other,
+    };
+    let gso_size = after(gso_size, "gso_size=");
+    Frame { length: length.parse().expect("a length"), digest: digest.to_string(), gso_size, gso_type }
+}
+
+/// The posted packets' slot counts, from lines such as `packet 0: 17 slots (1 extra), size 57974, ..`.
+fn slot_counts(folder: &Path) -> Vec<usize> {
+    let meta = meta(folder);
+    let packets = meta.lines().filter(|line| line.starts_with("packet "));
+    packets.map(|line| line.split_whitespace().nth(2).expect("slots").parse().expect("a count")).collect()
+}
+
+fn meta(folder: &Path) -> String {
+    fs::read_to_string(folder.join("meta.txt")).expect("meta.txt")
+}
+
+#[test]
+fn counter_is_the_pages_rsp_prod() {
+    for folder in snapshots() {
+        let stored = load(&folder).expect("a snapshot");
+        let ring = if stored.ring == Ring::Transmit { "tx" } else { "rx" };
+        let line = format!("{ring}: consumed {} ", stored.consumed);
+        assert!(meta(&folder).contains(&line), "{}: no '{line}' in meta.txt", stored.name);
+    }
+}
+
+/// Packets up to the first of more than 18 slots are handed over, as the guest's packet layer saw them.
+#[test]
+fn transmitted_frames_are_the_guests() {
+    for folder in snapshots() {
+        let stored = load(&folder).expect("a snapshot");
+        if stored.ring == Ring::Receive {
+            continue;
+        }
+        let (counts, frames) = (slot_counts(&folder), frames(&folder));
+        assert_eq!(counts.len(), frames.len(), "{}: packets posted", stored.name);
+        let taken = counts.iter().take_while(|&&slots| slots <= LIMIT).count();
+        let calls = calls(&stored);
+        let handed_over = &calls[..calls.len() - 1];
+        assert_eq!(handed_over.len(), taken, "{}: packets handed over", stored.name);
+        for ((call, expected), slots) in handed_over.iter().zip(frames).zip(&counts) {
+            let [answer, .., gso_size, gso_type] = call.words;
+            assert_eq!(answer, DONE, "{}", stored.name);
+            assert_eq!(call.words[3] as usize, *slots, "{}", stored.name);
+            let (length, digest) = (call.frame.len(), hex_digest(&call.frame));
+            assert_eq!(Frame { length, digest, gso_size, gso_type }, expected, "{}", stored.name);
+        }
+    }
+}
+
+/// A packet of 19 slots halts the queue; a ring without one ends empty. The snapshots show both.
+#[test]
+fn rings_end_empty_or_at_a_packet_too_long() {
+    let mut seen = HashSet::new();
+    for folder in snapshots() {
+        let stored = load(&folder).expect("a snapshot");
+        let last = calls(&stored).last().expect("a call").words[0];
+        let too_long = slot_counts(&folder).iter().any(|&slots| slots > LIMIT);
+        let expected = match stored.ring {
+            Ring::Transmit if too_long => MISSHAPEN,
+            Ring::Transmit => EMPTY,
+            Ring::Receive => NO_BUFFERS,
+        };
+        assert_eq!(last, expected, "{}", stored.name);
+        seen.insert(last);
+    }
+    assert_eq!(seen, HashSet::from([EMPTY, MISSHAPEN, NO_BUFFERS]));
+}
+
+#[test]
+fn sha256_of_known_messages() {
+    assert_eq!(hex_digest(b""), "e3b0c44298fc1c149afbf4c8996fb92427ae41e4649b934ca495991b7852b855");
+    assert_eq!(hex_digest(b"abc"), "ba7816bf8f01cfea414140de5dae2223b00361a396177a9cb410ff61f20015ad");
+    let million = vec![b'a'; 1_000_000];
+    let digest = "cdc76e5c9914fb9281a1c7e284d73e67f1809a48a497200e046d39ccc7112cd0";
+    assert_eq!(hex_digest(&million), digest);
+}

@@ -1,0 +1,74 @@
+//! The question "does some continuation make a packet of these slots?", asked of every continuation, against
+//! `begins_packet`, which tries four.
+
+#![deny(warnings)]
+
+use reference::grammar::{begins_packet, front, is_packet, Front, LIMIT};
+use reference::slots::Slot;
+
+/// A slot as the grammar sees it: bits 2 and 3 of its flags as data, type and bit 0 as an extra.
+fn letter(n: usize) -> Slot {
+    let bit = |k: usize| (n >> k & 1) as u8;
+    [bit(0), bit(1), 0, 0, 0, 0, bit(2) * 4 + bit(3) * 8, 0, 0, 0, 0, 0]
+}
+
+/// All runs of at most `length` letters.
+fn runs(length: usize) -> Vec<Vec<Slot>> {
+    let mut all = vec![Vec::new()];
+    let mut from = 0;
+    for _ in 0..length {
+        let shorter = all[from..].to_vec();
+        from = all.len();
+        all.extend(
+            shorter.iter().flat_map(|run| (0..16).map(move |n| [run.as_slice(), &[letter(n)]].concat())),
+        );
+    }
+    all
+}
+
+/// A first slot with the given flags, then so many of one letter.
+fn chain(flags: u8, repeated: Slot, count: usize) -> Vec<Slot> {
+    let first = [0, 0, 0, 0, 0, 0, flags, 0, 0, 0, 0, 0];
+    [vec![first], vec![repeated; count]].concat()
+}
+
+#[test]
+fn begins_packet_means_that_some_continuation_is_one() {
+    let extra_on = letter(3);
+    let data_on = letter(4);
+    let mut fronts = vec![Vec::new()];
+    for count in 13..=15 {
+        fronts.extend([chain(4, data_on, count), chain(8, extra_on, count), chain(12, extra_on, count)]);
+    }
+    let continuations = runs(2);
+    for front in fronts {
+        for run in runs(2) {
+            let slots = [front.as_slice(), &run].concat();
+            let makes_packet = |end: &Vec<Slot>| is_packet(&[slots.as_slice(), end].concat());
+            assert_eq!(begins_packet(&slots), continuations.iter().any(makes_packet), "{slots:02x?}");
+        }
+    }
+}
+
+#[test]
+fn no_packet_begins_another() {
+    for run in runs(3) {
+        let lengths: Vec<usize> = (1..=run.len()).filter(|&count| is_packet(&run[..count])).collect();
+        assert!(lengths.len() <= 1, "{run:02x?}");
+        assert_eq!(lengths.first().map(|&count| Front::Packet(count)), packet_at_front(&run));
+    }
+}
+
+fn packet_at_front(run: &[Slot]) -> Option<Front> {
+    Some(front(run)).filter(|found| matches!(found, Front::Packet(_)))
+}
+
+#[test]
+fn eighteen_slots_are_never_a_proper_beginning() {
+    for flags in [4, 8, 12] {
+        for repeated in [letter(3), letter(4), letter(7)] {
+            let slots = chain(flags, repeated, LIMIT - 1);
+            assert_ne!(front(&slots), Front::Beginning, "{slots:02x?}");
+        }
+    }
+}

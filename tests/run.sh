@@ -1,0 +1,50 @@
+#!/bin/bash
+# Builds and runs the tests that are written in Rust.
+#
+# usage: tests/run.sh LIBRARY_FOLDER
+#
+# LIBRARY_FOLDER holds libtollmeander.a. Each test ends with a line 'ok NAME' or 'FAILED NAME', the run with
+# 'tests: P passed, F failed'. The exit status is 0 only if F is 0.
+
+if [ $# -ne 1 ] || [ ! -f "$1/libtollmeander.a" ]; then
+    echo "usage: tests/run.sh LIBRARY_FOLDER (the folder of libtollmeander.a)" >&2
+    exit 2
+fi
+export TOLLMEANDER_LIB
+TOLLMEANDER_LIB=$(realpath "$1")
+cd "$(dirname "$0")" || exit 2
+
+passed=0
+failed=0
+
+# Runs a test: its name, then its command.
+check() {
+    local name=$1
+    shift
+    if "$@"; then
+        echo "ok $name"
+        passed=$((passed + 1))
+    else
+        echo "FAILED $name"
+        failed=$((failed + 1))
+    fi
+}
+
+program() {
+    cargo run -q --release --offline -p "$@"
+}
+
+# The second program's lines for the stored ring pages and the examples are the stored ones.
+replay() {
+    program reference -- replay ../crates/replay/data | cmp - ../crates/replay/stdout
+}
+
+check build cargo build -q --release --offline --all-targets
+check reference cargo test -q --release --offline -p reference
+check replay replay
+check differential program differential -- run --seed 1 --cases 200000
+check racing program differential -- racing --seconds 6
+check mutants ./mutants.sh "$TOLLMEANDER_LIB"
+
+echo "tests: $passed passed, $failed failed"
+[ "$failed" -eq 0 ]
