@@ -1,7 +1,7 @@
 -- From what the divider's loops have read to what stands at the front: the packet that they found, taken off the page.
 use mathlib.Core.Path.{_≡_, refl, sym, ap, _∙_}
 use mathlib.Core.List.{List, [], _∷_, _++_, map}
-use mathlib.Core.Bool.{Bool, true, false}
+use mathlib.Core.Bool.{Bool, true, false, not, _&&_}
 use Prim.Native.Nat.{ℕ, zero, suc, _+_, _-_, _≤_, _<_}
 use native.Mathlib.Omega.{arith}
 use native.Mathlib.Numerals.{add-one}
@@ -12,9 +12,11 @@ use Rattle.ring.specs.Ring.{slotAt, slotsFrom}
 use Rattle.ring.proofs.Ring.{slots-take, slots-drop, slots-length}
 use Rattle.netif.specs.Slot.{Slot, size, moreData, extraFollows}
 use Rattle.netif.specs.Decode.{dataOf}
-use Rattle.netif.specs.Divide.{Cut, whole, beginning, misshapen, scan, divide}
+use Rattle.netif.specs.Divide.{Cut, whole, beginning, misshapen, scan, divide, alone}
 use Rattle.netif.specs.Packet.{firstOf, laterOf, sizes, gsoSizeOf, gsoTypeOf}
 use Rattle.netif.specs.Front.{outlineOf, frontOf, FrontRead, behind}
+use Rattle.netif.proofs.Within.{within-one}
+use Rattle.netif.proofs.Loop.{nothing-owed}
 use Rattle.netif.specs.declared.DataSlot.{DataSlot}
 use Rattle.netif.specs.declared.divider.Outline.{Outline}
 use Rattle.netif.specs.declared.divider.Front.{Front}
@@ -97,3 +99,15 @@ module _ (page : List ℕ) (first posted : ℕ) where
           let b : f ≡ e = cc in
           rw (a, b) (u ∙ ap (λ (l : List Slot). splice before 1 (map size l)) (sym later-here));
     }
+
+-- a first slot that announces nothing
+both-clear : (a b : Bool) → not a && not b ≡ true → (a ≡ false) × (b ≡ false)
+both-clear false false h = (refl, refl)
+both-clear false true h = absurd (let z : _≡_ {A = ℕ} 0 1 = cc in omega arith)
+both-clear true b h = absurd (let z : _≡_ {A = ℕ} 0 1 = cc in omega arith)
+
+pub alone-whole : (s : Slot) (l : List Slot) → alone s ≡ true → divide (s ∷ l) ≡ whole 1 0
+unfolding alone divide
+alone-whole s l h =
+    let k = both-clear (moreData s) (extraFollows s) h in
+    rw (k .0, k .1) (nothing-owed l 1 0 within-one)

@@ -3,10 +3,10 @@ ghost use mathlib.Core.Path.{_≡_};
 ghost use mathlib.Core.Bool.{true};
 ghost use Prim.Native.Nat.{_+_, _≤_, _<_};
 ghost use lib.ListN.{length};
-ghost use Rattle.ring.specs.Ring.{pageSize, slotsFrom};
+ghost use Rattle.ring.specs.Ring.{pageSize, slotAt, slotsFrom};
 ghost use Rattle.netif.specs.Slot.{slotWidth, slotCount};
 ghost use Rattle.netif.specs.Grammar.{within};
-ghost use Rattle.netif.specs.Divide.{owed};
+ghost use Rattle.netif.specs.Divide.{owed, alone};
 ghost use Rattle.netif.specs.Front.{ExtrasRead, LaterRead, FrontRead, AfterExtras};
 use crate::DataSlot;
 use crate::Extra;
@@ -64,6 +64,20 @@ pub fn owed_by(announced: bool) -> u32
     ensures { λ r. ⌜ (r ≡ owed announced) × (r ≤ 1) ⌝ }
 {
     if announced { 1 } else { 0 }
+}
+
+// Whether the first slot is a packet by itself: it announces neither an extra nor more data.
+pub fn is_alone(page: &[u8], first: u32) -> bool
+    requires { ⌜ length (now page) ≡ pageSize ⌝ }
+    ensures { λ r. ⌜ r ≡ alone (slotAt slotWidth slotCount (now (page .entry)) first) ⌝ }
+{
+    let head = DataSlot::at(page, first);
+    let more = head.more_data();
+    let extra = head.extra_follows();
+    if more {
+        return false;
+    }
+    !extra
 }
 
 // The extras behind the first slot, if it announced any; more says whether it announced more data.

@@ -123,7 +123,7 @@ module _ (page : List ℕ) (c n : ℕ) (few : n ≤ 256) (d e : ℕ) (cut : divi
 
 -- ---- a good packet's plan
 
-slot-inside : (table window : List ℕ) (k : ℕ) (s : Slot) (n : ℕ) → judgeSlot table window k s n ≡ Good → (4096 * slotPage table s + 4096 ≤ length window) × (offset s + n ≤ 4096)
+pub slot-inside : (table window : List ℕ) (k : ℕ) (s : Slot) (n : ℕ) → judgeSlot table window k s n ≡ Good → (4096 * slotPage table s + 4096 ≤ length window) × (offset s + n ≤ 4096)
 unfolding judgeSlot slotPage
 slot-inside table window k s n h =
     let (a, b) = orElse-good (test (not (fitTransmit table window (gref s))) 4 k) (test (not (inRange table (gref s) (offset s) n)) 5 k) h in (

@@ -8,7 +8,7 @@ use Rattle.ring.specs.Ring.{wadd, notify, slotsFrom, withReplies}
 use Rattle.netif.specs.Slot.{Slot, slotWidth, slotCount, size, offset}
 use Rattle.netif.specs.Front.{outlineOf}
 use Rattle.netif.specs.Report.{reportOf}
-use Rattle.netif.specs.declared.Queue.{Queue}
+use Rattle.netif.specs.declared.DataSlot.{DataSlot}
 use Rattle.netif.specs.declared.Outcome.{Outcome as Returned}
 use Rattle.netif.specs.declared.divider.Outline.{Outline}
 use Rattle.netif.specs.declared.Verdict.{Verdict}
@@ -65,3 +65,10 @@ pub record Judged (table : List ℕ) (e : ℕ) (p : List Slot) (v : Verdict) (pa
 -- the table holds the packet's parts
 unfoldable pub HoldsParts : (sizes : List ℕ) (e : ℕ) (p : List Slot) → Type 0
 HoldsParts sizes e p = take (length (datasOf e p)) sizes ≡ parts e p
+
+-- the slot at counter c as a packet of one, and its outline
+abbrev pub packetOne : List ℕ → ℕ → List Slot
+packetOne page c = slotsFrom slotWidth slotCount page c 1
+
+abbrev pub aloneOutline : DataSlot → Outline
+aloneOutline d = record { head = d; slots = 1; extras = 0; later = 0; «gso_size» = 0; «gso_type» = 0 }

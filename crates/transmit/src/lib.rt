@@ -6,14 +6,18 @@ pub mod replying;
 ghost use mathlib.Core.Path.{_≡_};
 ghost use mathlib.Core.Bool.{false};
 ghost use mathlib.Core.List.{List};
-ghost use Prim.Native.Nat.{ℕ, _≤_, _<_};
+ghost use Prim.Native.Nat.{ℕ, _+_, _*_, _≤_, _<_};
 ghost use lib.ListN.{length};
 ghost use Rattle.words.specs.Word.{splice};
-ghost use Rattle.ring.specs.Ring.{pageSize, posted};
-ghost use Rattle.netif.specs.Slot.{okay, error};
+ghost use Rattle.ring.specs.Ring.{pageSize, posted, slotAt};
+ghost use Rattle.netif.specs.Decode.{dataOf};
+ghost use Rattle.netif.specs.Slot.{slotWidth, slotCount};
+ghost use Rattle.netif.specs.declared.Verdict.the-variants.{Good};
+ghost use Rattle.transmit.specs.Plan.{slotPage};
 ghost use Rattle.transmit.specs.Judge.{judge, frameOf};
 ghost use Rattle.transmit.specs.Take.{spoiled, handedOver, takePacket, takeFront, transmitTake};
-ghost use Rattle.transmit.specs.Code.{packetAt, Ready, HoldsParts, ConsumedAs, Gives};
+ghost use Rattle.transmit.specs.Code.{packetAt, Ready, HoldsParts, ConsumedAs, Gives, packetOne, aloneOutline};
+use grant::Source;
 use netif::Answer;
 use netif::DataSlot;
 use netif::Outcome;
@@ -132,6 +136,64 @@ fn settle(
     }
 }
 
+// The outline of a packet that is one slot.
+fn outline_of(head: DataSlot) -> Outline
+    ensures { λ r. ⌜ r ≡ aloneOutline head ⌝ }
+{
+    Outline {
+        head,
+        slots: 1,
+        extras: 0,
+        later: 0,
+        gso_size: 0,
+        gso_type: 0,
+    }
+}
+
+// A good packet of one slot, whose part lies in this page: copied and accepted if the frame buffer has room.
+fn accept_alone(
+    queue: Queue,
+    head: DataSlot,
+    page: u32,
+    window: &[u8],
+    ring: &mut [u8],
+    frame: &mut [u8],
+) -> Outcome
+    requires { ⌜ (length (now ring) ≡ pageSize) × (head ≡ dataOf (slotAt slotWidth slotCount (now ring) (queue .consumed))) × (4096 * page + 4096 ≤ length (now window)) × (head .offset + head .size ≤ 4096) ⌝ }
+    ensures { λ r. ⌜ ((table : List ℕ) → judge table (now (window .entry)) 0 (packetOne (now (ring .entry)) (queue .consumed)) ≡ Good → page ≡ slotPage table (slotAt slotWidth slotCount (now (ring .entry)) (queue .consumed)) → Gives (takePacket table (now (window .entry)) queue (now (ring .entry)) (now (frame .entry)) 0 (packetOne (now (ring .entry)) (queue .consumed)) (judge table (now (window .entry)) 0 (packetOne (now (ring .entry)) (queue .consumed)))) r (now (ring .exit)) (now (frame .exit))) ⌝ }
+{
+    if frame.len() < head.size as usize {
+        return Outcome {
+            answer: Answer::NoRoom,
+            queue,
+        };
+    }
+    gathering::copy_part(window, page, head.offset, head.size, frame, 0);
+    accept(queue, outline_of(head), ring)
+}
+
+// A packet of one slot, as most are: what settle does of it, with no loop and no table.
+fn settle_alone(
+    queue: Queue,
+    grants: &[u8],
+    window: &[u8],
+    ring: &mut [u8],
+    frame: &mut [u8],
+) -> Outcome
+    requires { ⌜ length (now ring) ≡ pageSize ⌝ }
+    ensures { λ r. ⌜ Gives (takePacket (now (grants .entry)) (now (window .entry)) queue (now (ring .entry)) (now (frame .entry)) 0 (packetOne (now (ring .entry)) (queue .consumed)) (judge (now (grants .entry)) (now (window .entry)) 0 (packetOne (now (ring .entry)) (queue .consumed)))) r (now (ring .exit)) (now (frame .exit)) ⌝ }
+{
+    let head = DataSlot::at(ring, queue.consumed);
+    match judging::judge_sizes(head.size, 0) {
+        Verdict::Bad { cause, place } => refuse(queue, outline_of(head), cause, place, ring),
+        Verdict::Good => match grant::lookup(grants, window, head.gref, head.offset, head.size) {
+            Source::Unfit => refuse(queue, outline_of(head), 4, 0, ring),
+            Source::Outside => refuse(queue, outline_of(head), 5, 0, ring),
+            Source::At(page) => accept_alone(queue, head, page, window, ring, frame),
+        },
+    }
+}
+
 // Slots are posted: what stands at their front is taken, waited for or refused.
 fn take_front(
     queue: Queue,
@@ -144,6 +206,9 @@ fn take_front(
     requires { ⌜ (length (now ring) ≡ pageSize) × (count ≡ posted (now ring) (queue .consumed)) × (1 ≤ count) × (count ≤ 256) ⌝ }
     ensures { λ r. ⌜ Gives (takeFront (now (grants .entry)) (now (window .entry)) queue (now (ring .entry)) (now (frame .entry))) r (now (ring .exit)) (now (frame .exit)) ⌝ }
 {
+    if netif::divider::is_alone(ring, queue.consumed) {
+        return settle_alone(queue, grants, window, ring, frame);
+    }
     let mut sizes = [0u16; 18];
     match netif::divider::read(ring, queue.consumed, count, &mut sizes) {
         Front::Misshapen => Outcome {

@@ -1,4 +1,4 @@
--- `take_front` meets its contract, by what the divider read at the front of the posted slots.
+-- `take_front` meets its contract: a slot that is a packet by itself, or what the divider read at the front of the posted slots.
 use mathlib.Core.Path.{_≡_, refl, sym, ap, _∙_}
 use mathlib.Core.List.{map}
 use Prim.Native.Nat.{_+_}
@@ -11,50 +11,80 @@ use Rattle.netif.specs.Packet.{laterOf}
 use Rattle.netif.specs.declared.Answer.the-variants.{Misshapen, Waiting}
 use Rattle.transmit.specs.Code.{packetAt}
 use Rattle.transmit.proofs.Cases.{waiting-slots, front-stops, front-wrong, front-packet}
+use Rattle.transmit.proofs.Alone.{alone-front}
 use Rattle.transmit.proofs.Settling.{front-beginning, front-misshapen, front-whole, whole-ready, extras-are, packet-whole, parts-held, gives-refusal}
 use borrow.Author.Needs.{needs}
 use Rattle.transmit.proofs.take_front.Statement.{statement}
 use Rattle.transmit.proofs.take_front.Tie as tie
 use Rattle.transmit.proofs.take_front.Reads as reads
 use Rattle.transmit.proofs.take_front.Lts as lts
+use Rattle.netif.proofs.divider.is_alone.Reads as is-alone-reads
 use Rattle.netif.proofs.divider.read.Reads as read-reads
 use Rattle.ring.proofs.ask_event.Reads as ask-event-reads
 use Rattle.transmit.proofs.judging.own_part.Reads as own-part-reads
 use Rattle.transmit.proofs.settle.Reads as settle-reads
+use Rattle.transmit.proofs.settle_alone.Reads as settle-alone-reads
 
--- src/lib.rt:108:11
+-- src/lib.rt:186:8
+is-alone-requires : tie.Need-is-alone-requires
+is-alone-requires c κs = search needs
+
+-- src/lib.rt:187:9
+settle-alone-requires : tie.Need-settle-alone-requires
+settle-alone-requires c κs = search needs
+
+-- src/lib.rt:187:9
+same-length : tie.Need-same-length
+same-length c = search needs
+
+-- src/lib.rt:187:9
+same-length-2 : tie.Need-same-length-2
+same-length-2 c = search needs
+
+-- src/lib.rt:187:9
+returns : tie.Need-returns
+returns c =
+    let a = c .before .before .before .before .before .before .before .before .before .before .before .before .before .before .args in
+    let p = c .before .before .before .before .before .before .before .before .before .before .before .before .before .before .pre in
+    let q = a .queue in
+    let l = slotsFrom 12 256 (a .ring .now) (q .consumed) (a .count) in
+    let waits = waiting-slots (a .ring .now) (q .consumed) (a .count) (p .1) in
+    let e = alone-front (a .ring .now) (q .consumed) (a .count) (p .2) (sym (c .before .before .before .before .before .before .before .before .is-alone .ensures) ∙ c .before .before .before .before .before .before .before .if1 .taken) in
+    rw (front-packet (a .grants .now) (a .window .now) q (a .ring .now) (a .frame .now) l waits 1 0 (e .0), e .1) (c .before .before .before .before .settle-alone .ensures)
+
+-- src/lib.rt:190:11
 read-requires : tie.Need-read-requires
 read-requires c κs = search needs
 
--- src/lib.rt:110:21
+-- src/lib.rt:192:21
 enum-told : tie.Need-enum-told
 enum-told c = search needs
 
--- src/lib.rt:114:29
+-- src/lib.rt:199:29
 enum-told-2 : tie.Need-enum-told-2
 enum-told-2 c = search needs
 
--- src/lib.rt:114:13
+-- src/lib.rt:199:13
 ask-event-requires : tie.Need-ask-event-requires
 ask-event-requires c κs = search needs
 
--- src/lib.rt:117:22
+-- src/lib.rt:205:22
 enum-known-o : tie.Need-enum-known-o
 enum-known-o c = search needs
 
--- src/lib.rt:119:24
+-- src/lib.rt:207:24
 own-part-requires : tie.Need-own-part-requires
 own-part-requires c κs = search needs
 
--- src/lib.rt:119:13
+-- src/lib.rt:207:13
 array-write-sizes : tie.Need-array-write-sizes
 array-write-sizes c = search needs
 
--- src/lib.rt:120:13
+-- src/lib.rt:208:13
 settle-requires : tie.Need-settle-requires
 settle-requires c κs =
-    let a = c .before .before .before .before .before .before .before .before .before .before .before .before .before .before .before .args in
-    let p = c .before .before .before .before .before .before .before .before .before .before .before .before .before .before .before .pre in
+    let a = c .before .before .before .before .before .before .before .before .before .before .before .before .before .before .before .before .before .before .args in
+    let p = c .before .before .before .before .before .before .before .before .before .before .before .before .before .before .before .before .before .before .pre in
     let q = a .queue in
     let l = slotsFrom 12 256 (a .ring .now) (q .consumed) (a .count) in
     let r = c .before .before .before .before .before .before .before .before .read in
@@ -69,15 +99,15 @@ settle-requires c κs =
           (r .ensures .table (w .0) (w .1) (w .2) ∙ ap (λ x. splice (replicate 18 0) 1 (map size x)) later) (omega arith),
     )
 
--- src/lib.rt:103:1
-same-length : tie.Need-same-length
-same-length c = search needs
+-- src/lib.rt:175:1
+same-length-3 : tie.Need-same-length-3
+same-length-3 c = search needs
 
--- src/lib.rt:103:1
-returns : tie.Need-returns
-returns c =
-    let a = c .before .before .before .before .before .before .before .before .before .args in
-    let p = c .before .before .before .before .before .before .before .before .before .pre in
+-- src/lib.rt:175:1
+returns-2 : tie.Need-returns-2
+returns-2 c =
+    let a = c .before .before .before .before .before .before .before .before .before .before .before .before .args in
+    let p = c .before .before .before .before .before .before .before .before .before .before .before .before .pre in
     let q = a .queue in
     let l = slotsFrom 12 256 (a .ring .now) (q .consumed) (a .count) in
     let r = c .before .before .read in
@@ -85,15 +115,15 @@ returns c =
     rw (front-wrong (a .grants .now) (a .window .now) q (a .ring .now) (a .frame .now) l waits (front-misshapen l (sym (c .enum-told .given .1) ∙ r .ensures .answer)))
     (gives-refusal 5 q (a .ring .now) (a .frame .now) Misshapen refl)
 
--- src/lib.rt:103:1
-same-length-2 : tie.Need-same-length-2
-same-length-2 c = search needs
+-- src/lib.rt:175:1
+same-length-4 : tie.Need-same-length-4
+same-length-4 c = search needs
 
--- src/lib.rt:103:1
-returns-2 : tie.Need-returns-2
-returns-2 c =
-    let a = c .before .before .before .before .before .before .before .before .before .before .before .before .before .args in
-    let p = c .before .before .before .before .before .before .before .before .before .before .before .before .before .pre in
+-- src/lib.rt:175:1
+returns-3 : tie.Need-returns-3
+returns-3 c =
+    let a = c .before .before .before .before .before .before .before .before .before .before .before .before .before .before .before .before .args in
+    let p = c .before .before .before .before .before .before .before .before .before .before .before .before .before .before .before .before .pre in
     let q = a .queue in
     let l = slotsFrom 12 256 (a .ring .now) (q .consumed) (a .count) in
     let r = c .before .before .before .before .before .before .read in
@@ -101,19 +131,19 @@ returns-2 c =
     rw (front-stops (a .grants .now) (a .window .now) q (a .ring .now) (a .frame .now) l waits (front-beginning l (sym (c .before .before .before .before .enum-told2 .given .1) ∙ r .ensures .answer)), c .before .before .ask-event .ensures)
     (gives-refusal 6 q (a .ring .now) (a .frame .now) Waiting refl)
 
--- src/lib.rt:103:1
-same-length-3 : tie.Need-same-length-3
-same-length-3 c = search needs
+-- src/lib.rt:175:1
+same-length-5 : tie.Need-same-length-5
+same-length-5 c = search needs
 
--- src/lib.rt:103:1
-same-length-4 : tie.Need-same-length-4
-same-length-4 c = search needs
+-- src/lib.rt:175:1
+same-length-6 : tie.Need-same-length-6
+same-length-6 c = search needs
 
--- src/lib.rt:103:1
-returns-3 : tie.Need-returns-3
-returns-3 c =
-    let a = c .before .before .before .before .before .before .before .before .before .before .before .before .before .before .before .before .before .before .before .before .args in
-    let p = c .before .before .before .before .before .before .before .before .before .before .before .before .before .before .before .before .before .before .before .before .pre in
+-- src/lib.rt:175:1
+returns-4 : tie.Need-returns-4
+returns-4 c =
+    let a = c .before .before .before .before .before .before .before .before .before .before .before .before .before .before .before .before .before .before .before .before .before .before .before .args in
+    let p = c .before .before .before .before .before .before .before .before .before .before .before .before .before .before .before .before .before .before .before .before .before .before .before .pre in
     let q = a .queue in
     let l = slotsFrom 12 256 (a .ring .now) (q .consumed) (a .count) in
     let r = c .before .before .before .before .before .before .before .before .before .before .before .before .before .read in
@@ -127,6 +157,11 @@ pub take-front-spec : {M : Type 1} → statement M
 take-front-spec =
     tie.close
     (tie.spec
+    is-alone-requires
+    settle-alone-requires
+    same-length
+    same-length-2
+    returns
     read-requires
     enum-told
     enum-told-2
@@ -135,10 +170,10 @@ take-front-spec =
     own-part-requires
     array-write-sizes
     settle-requires
-    same-length
-    returns
-    same-length-2
-    returns-2
     same-length-3
+    returns-2
     same-length-4
-    returns-3)
+    returns-3
+    same-length-5
+    same-length-6
+    returns-4)
