@@ -25,7 +25,7 @@ same-turn n i j h g e =
 
 module _ (w n : ℕ) where
   -- of two places, one ends before the other begins
-  places-apart : (i j : ℕ) → i % n ≢ j % n → (slotPlace w n i + w ≤ slotPlace w n j) ⊎ (slotPlace w n j + w ≤ slotPlace w n i)
+  pub places-apart : (i j : ℕ) → i % n ≢ j % n → (slotPlace w n i + w ≤ slotPlace w n j) ⊎ (slotPlace w n j + w ≤ slotPlace w n i)
   unfolding slotPlace
   places-apart i j h = ⊎-elim (λ k. inl (omega (arith, mul-le-mul-left w k))) (λ k. inr (omega (arith, mul-le-mul-left w (after k)))) (lt-or-ge (i % n) (j % n))
     where
@@ -136,18 +136,18 @@ short-take w (r ∷ rs) (suc i) h = (h .0, short-take w rs i (h .1))
 
 module _ (w n : ℕ) (some : 0 < n) where
   module _ (page : List ℕ) (fits : 64 + w * n ≤ length page) (i : ℕ) (r : List ℕ) (short : length r ≤ w) where
-    reply-fits : slotPlace w n i + length r ≤ length page
+    pub reply-fits : slotPlace w n i + length r ≤ length page
     reply-fits = omega (arith, place-fits w n i (length page) some fits)
 
-    reply-length : length (splice page (slotPlace w n i) r) ≡ length page
+    pub reply-length : length (splice page (slotPlace w n i) r) ≡ length page
     reply-length = splice-length page (slotPlace w n i) r reply-fits
 
-    reply-header : (j : ℕ) → j < 64 → getD (splice page (slotPlace w n i) r) j 0 ≡ getD page j 0
+    pub reply-header : (j : ℕ) → j < 64 → getD (splice page (slotPlace w n i) r) j 0 ≡ getD page j 0
     unfolding slotPlace
     reply-header j h = splice-before page (slotPlace w n i) r reply-fits j (omega arith)
 
     -- a reply leaves every other slot
-    reply-slot : (j : ℕ) → i % n ≢ j % n → slotAt w n (splice page (slotPlace w n i) r) j ≡ slotAt w n page j
+    pub reply-slot : (j : ℕ) → i % n ≢ j % n → slotAt w n (splice page (slotPlace w n i) r) j ≡ slotAt w n page j
     unfolding slotAt
     reply-slot j h =
         part-same (splice page (slotPlace w n i) r) page (slotPlace w n j) w reply-length
@@ -183,7 +183,7 @@ module _ (w n : ℕ) (some : 0 < n) where
   unfolding slotAt
   slot-length page f i = simp (length-take, length-drop) (omega (arith, place-fits w n i (length page) some f))
 
-  reply-here : (page : List ℕ) → 64 + w * n ≤ length page → (i : ℕ) (r : List ℕ) → length r ≤ w → slotAt w n (splice page (slotPlace w n i) r) i ≡ splice (slotAt w n page i) 0 r
+  pub reply-here : (page : List ℕ) → 64 + w * n ≤ length page → (i : ℕ) (r : List ℕ) → length r ≤ w → slotAt w n (splice page (slotPlace w n i) r) i ≡ splice (slotAt w n page i) 0 r
   reply-here page f i r h =
       let e : length (splice page (slotPlace w n i) r) ≡ length page = reply-length page f i r h in
       let size : length (slotAt w n page i) ≡ w = slot-length page f i in
