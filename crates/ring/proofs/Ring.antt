@@ -9,7 +9,7 @@ use lib.ListN.{length, take, drop, getD, length-take, length-drop}
 use lib.Seq.{take-at, drop-at, getD-take, getD-drop, ext-getD}
 use Rattle.words.specs.Word.{Bytes, u16At, u32At, splice}
 use Rattle.words.proofs.Word.{lt-or-ge, splice-length, splice-before, splice-after, splice-inside, part-same, take-bytes, drop-bytes}
-use Rattle.ring.specs.Ring.{wrap, wadd, wsub, slotPlace, slotAt, slotsFrom, withReplies}
+use Rattle.ring.specs.Ring.{wrap, slotPlace, slotAt, slotsFrom, withReplies}
 
 -- ---- slots of different places, over the width and the count
 
