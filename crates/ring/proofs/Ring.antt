@@ -119,10 +119,7 @@ module _ (w n : ℕ) where
 
   -- one more reply
   pub replies-more : (rs : List (List ℕ)) (page : List ℕ) (i : ℕ) (r : List ℕ) → withReplies w n page i (rs ++ (r ∷ [])) ≡ splice (withReplies w n page i rs) (slotPlace w n (i + length rs)) r
-  replies-more [] page i r = rw add-zero
-  replies-more (q ∷ rs) page i r =
-      replies-more rs (splice page (slotPlace w n i) q) (suc i) r
-      ∙ ap (λ (k : ℕ). splice (withReplies w n (splice page (slotPlace w n i) q) (suc i) rs) (slotPlace w n k) r) (omega arith)
+  replies-more rs page i r = replies-append rs (r ∷ []) page i
 
 -- replies that fit their slots
 abbrev pub Short : ℕ → List (List ℕ) → Type 0
