@@ -1,5 +1,5 @@
 -- Laws of grants: what a lookup's answer says of the grant, and that a part within its range of a fit grant lies in the window.
-use mathlib.Core.Path.{_≡_, refl, sym, _∙_}
+use mathlib.Core.Path.{_≡_, refl}
 use mathlib.Core.List.{List}
 use mathlib.Core.Bool.{Bool, true, false, cond, _&&_}
 use Prim.Native.Nat.{ℕ, _+_, _*_, _/_, _≤_, _<_}
@@ -7,16 +7,11 @@ use native.Mathlib.Omega.{arith}
 use lib.ListN.{length, length-take, length-drop}
 use borrow.Author.Tests.{leb-true, le-leb, lt-leb}
 use Rattle.words.specs.Word.{u32At, bit}
+use Rattle.words.proofs.Word.{and-both}
 use Rattle.grant.specs.Grant.{hasWord, word, granted, writable, usable, pageOf, inRange, fitTransmit, fitReceive, pagePart, windowPart}
 use Rattle.grant.specs.Found.{readPage, writePage, sourceOf}
-use Rattle.grant.specs.declared.Page.{Page}
 use Rattle.grant.specs.declared.Page.the-variants as page
-use Rattle.grant.specs.declared.Source.{Source}
 use Rattle.grant.specs.declared.Source.the-variants as source
-
-both : (a b : Bool) → a && b ≡ true → (a ≡ true) × (b ≡ true)
-both true b h = (refl, h)
-both false b h = absurd (let z : _≡_ {A = ℕ} 0 1 = cc in omega arith)
 
 and-false : (a : Bool) → a && false ≡ false
 and-false true = refl
@@ -62,7 +57,7 @@ module _ (table window : List ℕ) (g : ℕ) where
 
   pub fit-word : fitTransmit table window g ≡ true → hasWord table g ≡ true
   unfolding fitTransmit
-  fit-word h = both (hasWord table g) (granted table g) (both (hasWord table g && granted table g) (usable window (pageOf table g)) h .0) .0
+  fit-word h = and-both (hasWord table g) (granted table g) (and-both (hasWord table g && granted table g) (usable window (pageOf table g)) h .0) .0
 
   -- ---- the lookups above it
 
@@ -96,11 +91,11 @@ module _ (table window : List ℕ) (g : ℕ) where
   -- the page of a fit grant lies in the window
   pub fit-page : fitTransmit table window g ≡ true → 4096 * pageOf table g + 4096 ≤ length window
   unfolding fitTransmit usable
-  fit-page h = leb-true (4096 * pageOf table g + 4096) (length window) (both (hasWord table g && granted table g) _ h .1)
+  fit-page h = leb-true (4096 * pageOf table g + 4096) (length window) (and-both (hasWord table g && granted table g) _ h .1)
 
   pub receive-transmit : fitReceive table window g ≡ true → fitTransmit table window g ≡ true
   unfolding fitReceive
-  receive-transmit h = both (fitTransmit table window g) (writable table g) h .0
+  receive-transmit h = and-both (fitTransmit table window g) (writable table g) h .0
 
   -- what is in range lies in the page
   pub range-page : (offset n : ℕ) → inRange table g offset n ≡ true → offset + n ≤ 4096

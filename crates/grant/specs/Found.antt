@@ -9,14 +9,14 @@ use Rattle.grant.specs.declared.Source.{Source}
 use Rattle.grant.specs.declared.Source.the-variants as source
 
 module _ (table window : List ℕ) (g : ℕ) where
-  -- a page to be read, and one to be written
+  -- the page of a grant fit for transmit, and of one fit for receive
   unfoldable pub readPage : Page
   readPage = cond (fitTransmit table window g) (page.Fit (pageOf table g)) page.Unfit
 
   unfoldable pub writePage : Page
   writePage = cond (fitReceive table window g) (page.Fit (pageOf table g)) page.Unfit
 
-  -- a slot's part: first whether the grant is fit, then whether it covers the part
+  -- causes 4 and 5 of a slot's part: first whether the grant is fit, then whether it covers the part
   unfoldable pub sourceOf : (offset n : ℕ) → Source
   sourceOf offset n =
       cond (fitTransmit table window g)

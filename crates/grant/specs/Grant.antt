@@ -32,14 +32,16 @@ module _ (table : List ℕ) (g : ℕ) where
 unfoldable pub inRange : List ℕ → ℕ → ℕ → ℕ → Bool
 inRange table g offset n = leb (offset + n) 4096
 
--- page p lies within the window
+-- page p is usable: it lies within the window
 unfoldable pub usable : List ℕ → ℕ → Bool
 usable window p = leb (4096 * p + 4096) (length window)
 
 module _ (table window : List ℕ) (g : ℕ) where
+  -- fit for transmit: it has a word, is granted and its page is usable
   unfoldable pub fitTransmit : Bool
   fitTransmit = hasWord table g && granted table g && usable window (pageOf table g)
 
+  -- fit for receive: writable as well
   unfoldable pub fitReceive : Bool
   fitReceive = fitTransmit && writable table g
 

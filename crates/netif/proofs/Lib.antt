@@ -5,3 +5,5 @@ pub mod Scan
 pub mod Loop
 pub mod Reading
 pub mod Service
+pub mod Encode
+pub mod ShapeExamples

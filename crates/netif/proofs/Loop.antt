@@ -3,7 +3,7 @@
 use mathlib.Core.Path.{_≡_, refl, sym, ap, _∙_}
 use mathlib.Core.List.{List, [], _∷_, _++_, map, map-append}
 use mathlib.Core.Bool.{Bool, true, false}
-use Prim.Native.Nat.{ℕ, zero, suc, _+_, _-_, _%_, _≤_, _<_}
+use Prim.Native.Nat.{ℕ, suc, _+_, _-_, _<_}
 use native.Mathlib.Nat.{add-assoc}
 use native.Mathlib.Omega.{arith}
 use native.Mathlib.Numerals.{add-one}
@@ -11,12 +11,12 @@ use lib.ListN.{length, getD, set, length-map}
 use borrow.Author.Tests.{eq-eqb, ne-eqb}
 use Rattle.words.specs.Word.{splice, bit}
 use Rattle.words.proofs.Word.{splice-more}
-use Rattle.ring.specs.Ring.{wrap, wadd, slotAt, slotsFrom}
+use Rattle.ring.specs.Ring.{wadd, slotAt, slotsFrom}
 use Rattle.ring.proofs.Ring.{slot-wrap, slots-at, slots-length, slots-snoc}
 use Rattle.netif.specs.Slot.{Slot, flags, size, moreData, extraFollows, isExtra, anotherExtra, gsoSize, gsoType}
 use Rattle.netif.specs.Decode.{dataOf, extraOf}
 use Rattle.netif.specs.Grammar.{within}
-use Rattle.netif.specs.Divide.{Cut, whole, beginning, misshapen, owed, scan, divide}
+use Rattle.netif.specs.Divide.{whole, beginning, misshapen, owed, scan}
 use Rattle.netif.specs.Packet.{sizes, gsoSizeOf, gsoTypeOf}
 use Rattle.netif.specs.Front.{behind}
 use Rattle.netif.specs.declared.DataSlot.{DataSlot}

@@ -1,26 +1,26 @@
 -- From what the divider's loops have read to what stands at the front: the packet that they found, taken off the page.
 use mathlib.Core.Path.{_≡_, refl, sym, ap, _∙_}
-use mathlib.Core.List.{List, [], _∷_, _++_, map}
+use mathlib.Core.List.{List, [], _∷_, map}
 use mathlib.Core.Bool.{Bool, true, false, not, _&&_}
 use Prim.Native.Nat.{ℕ, zero, suc, _+_, _-_, _≤_, _<_}
 use native.Mathlib.Omega.{arith}
 use native.Mathlib.Numerals.{add-one}
-use lib.ListN.{length, take, drop, getD}
+use lib.ListN.{length, take}
 use lib.Seq.{getD-take}
-use Rattle.words.specs.Word.{splice}
+use Rattle.words.specs.Word.{splice, bit}
 use Rattle.ring.specs.Ring.{slotAt, slotsFrom}
 use Rattle.ring.proofs.Ring.{slots-take, slots-drop, slots-length}
 use Rattle.netif.specs.Slot.{Slot, size, moreData, extraFollows}
 use Rattle.netif.specs.Decode.{dataOf}
-use Rattle.netif.specs.Divide.{Cut, whole, beginning, misshapen, scan, divide, alone}
+use Rattle.netif.specs.Divide.{whole, beginning, misshapen, scan, divide, alone}
 use Rattle.netif.specs.Packet.{firstOf, laterOf, sizes, gsoSizeOf, gsoTypeOf}
-use Rattle.netif.specs.Front.{outlineOf, frontOf, FrontRead, behind}
-use Rattle.netif.proofs.Within.{within-one}
-use Rattle.netif.proofs.Loop.{nothing-owed}
+use Rattle.netif.specs.Front.{outlineOf, frontOf, FrontRead, behind, goingOn, ExtrasRead}
 use Rattle.netif.specs.declared.DataSlot.{DataSlot}
-use Rattle.netif.specs.declared.divider.Outline.{Outline}
-use Rattle.netif.specs.declared.divider.Front.{Front}
+use Rattle.netif.specs.declared.divider.Shape.{Shape}
+use Rattle.netif.specs.declared.divider.Extras.{Extras}
 use Rattle.netif.specs.declared.divider.Front.the-variants as front
+use Rattle.netif.proofs.Within.{within-one}
+use Rattle.netif.proofs.Loop.{nothing-owed, more-bit, follows-bit}
 
 -- ---- no whole packet
 
@@ -44,16 +44,16 @@ gso-type-front zero n l h = refl
 gso-type-front (suc e) n l h = rw (getD-take n l (suc e) [] h)
 
 module _ (page : List ℕ) (first posted : ℕ) where
-  posted-slots : List Slot
-  posted-slots = slotsFrom 12 256 page first posted
-
-  -- the first slot, and what the scan goes on from
-  pub first-read : (x m : Bool) → 1 ≤ posted → x ≡ extraFollows (slotAt 12 256 page first) → m ≡ moreData (slotAt 12 256 page first)
-      → divide (slotsFrom 12 256 page first posted) ≡ scan (behind page first posted 1) 1 0 x m
+  -- the first slot and the extras behind it: what the whole run comes to
+  pub extras-read : (head : DataSlot) (x m : Bool) (r : Extras) → 1 ≤ posted → head ≡ dataOf (slotAt 12 256 page first) → x ≡ bit 3 (head .flags) → m ≡ bit 2 (head .flags)
+      → ExtrasRead page first posted x m r → (s : Shape) → r .shape ≡ s
+      → divide (slotsFrom 12 256 page first posted) ≡ goingOn s (scan (behind page first posted (r .count + 1)) 1 (r .count) false m)
   unfolding divide
-  first-read x m h p q =
+  extras-read head x m r h f p q e s i =
       let z : posted ≡ suc (posted - 1) = omega arith in
-      ap (λ (k : ℕ). divide (slotsFrom 12 256 page first k)) z ∙ rw (p, q, add-one first)
+      ap (λ (k : ℕ). divide (slotsFrom 12 256 page first k)) z
+      ∙ rw (sym (follows-bit _ head f) ∙ sym p, sym (more-bit _ head f) ∙ sym q, ← add-one first) (e .rest)
+      ∙ ap (λ (t : Shape). goingOn t (scan (behind page first posted (r .count + 1)) 1 (r .count) false m)) i
 
   -- ---- a packet of k later data slots and e extras
 

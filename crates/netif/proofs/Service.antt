@@ -3,7 +3,7 @@ use mathlib.Core.Path.{_≡_, refl, sym, ap, _∙_}
 use mathlib.Core.Logic.{_≢_, _⊎_, inl, inr, ⊎-elim}
 use mathlib.Core.List.{List, [], _∷_, _++_, append-nil, append-assoc}
 use mathlib.Core.Bool.{Bool, true, false, cond, _||_}
-use Prim.Native.Nat.{ℕ, suc, _+_, _≤_, _<_}
+use Prim.Native.Nat.{ℕ, suc, _+_, _<_}
 use native.Mathlib.Omega.{arith}
 use lib.ListN.{length, take, length-append}
 use lib.Seq.{take-at}
@@ -14,7 +14,7 @@ use Rattle.netif.specs.Slot.{Slot}
 use Rattle.netif.specs.Grammar.{Packet, Begins, BeginsProperly, AllPackets, joinAll, Division}
 use Rattle.netif.specs.Divide.{Cut, whole, beginning, misshapen, divide, packetsOf, restOf}
 use Rattle.netif.specs.Service.{_▹_, Ending, Served, taken, Serves}
-use Rattle.netif.proofs.Grammar.{divide-begins, beginning-iff, misshapen-iff, misshapen-stays, none-found, division-none, division, division-unique}
+use Rattle.netif.proofs.Grammar.{divide-begins, beginning-iff, misshapen-iff, misshapen-stays, none-found, division-none, division, division-only, division-unique}
 
 -- ---- lists of packets
 
@@ -136,7 +136,7 @@ module _ (Call : Type 0) (answer : Call → ℕ) (Took : ℕ → Call → List S
       served = v .served;
       takes = v .takes;
       counter = v .counter;
-      halts = λ h. misshapen-stays left new (v .halts h);
+      halts = λ h. misshapen-iff (left ++ new) .1 (misshapen-stays left new (misshapen-iff left .0 (v .halts h)));
     }
 
     -- a call that took nothing
@@ -218,7 +218,7 @@ module _ (Call : Type 0) (answer : Call → ℕ) (Took : ℕ → Call → List S
         let u = division-unique (packetsOf run) (done ++ packetsOf left) (division run) division-of in
         record {
           divided = division run;
-          only = λ ps r d. division-unique ps (packetsOf run) d (division run);
+          only = division-only run;
           few = rw (u .0) (omega (arith, v .takes, length-append done (packetsOf left)));
           served = rw reads-done (v .served);
           counter = rw reads-done (v .counter);

@@ -2,11 +2,11 @@
 use mathlib.Core.Path.{_≡_}
 use mathlib.Core.List.{List, map}
 use mathlib.Core.Bool.{Bool, true, false}
-use Prim.Native.Nat.{ℕ, _+_, _-_, _≤_, _<_}
+use Prim.Native.Nat.{ℕ, _+_, _-_, _≤_}
 use lib.ListN.{length, take}
 use Rattle.words.specs.Word.{splice}
 use Rattle.ring.specs.Ring.{slotAt, slotsFrom}
-use Rattle.netif.specs.Slot.{Slot, slotWidth, slotCount, size, moreData}
+use Rattle.netif.specs.Slot.{Slot, slotWidth, slotCount, size}
 use Rattle.netif.specs.Decode.{dataOf}
 use Rattle.netif.specs.Grammar.{within}
 use Rattle.netif.specs.Divide.{Cut, whole, beginning, misshapen, scan, divide, onCut}

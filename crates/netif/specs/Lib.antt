@@ -1,6 +1,7 @@
 -- The definitions that the promises cite, in reading order.
 pub mod Slot
 pub mod Decode
+pub mod Encode
 pub mod Grammar
 pub mod Divide
 pub mod Packet

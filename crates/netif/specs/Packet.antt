@@ -1,15 +1,18 @@
--- A packet taken apart. It is given as its slots p and the number e of its extras, which stand behind the first slot.
+-- Document 01, "Packet grammar": a packet taken apart. It is given as its slots p and the number e of its extras, which stand behind the first slot.
 use mathlib.Core.List.{List, [], _∷_}
 use Prim.Native.Nat.{ℕ, zero, suc, _+_}
 use lib.ListN.{take, drop, getD}
 use Rattle.netif.specs.Slot.{Slot, size, gsoSize, gsoType}
 
+-- the first data slot
 abbrev pub firstOf : List Slot → Slot
 firstOf p = getD p 0 []
 
+-- the extras
 abbrev pub extrasOf : ℕ → List Slot → List Slot
 extrasOf e p = take e (drop 1 p)
 
+-- the data slots after the first
 abbrev pub laterOf : ℕ → List Slot → List Slot
 laterOf e p = drop (suc e) p
 

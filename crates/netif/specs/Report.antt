@@ -2,7 +2,6 @@
 use mathlib.Core.Bool.{Bool, true, false}
 use Prim.Native.Nat.{ℕ}
 use Rattle.netif.specs.declared.Queue.{Queue}
-use Rattle.netif.specs.declared.Summary.{Summary}
 use Rattle.netif.specs.declared.Answer.{Answer}
 use Rattle.netif.specs.declared.Answer.the-variants.{Done, BadPage, HaltedAlready, Overflow, Empty, Misshapen, Waiting, Spoiled, NoRoom, BadLength, NoBuffers}
 

@@ -1,4 +1,4 @@
--- The fields of slots, as functions of their bytes, and the bytes of replies.
+-- Document 01, "Slot layouts": the fields of slots, as functions of their bytes, and the bytes of replies.
 use mathlib.Core.List.{List, _++_}
 use mathlib.Core.Bool.{Bool}
 use Prim.Native.Nat.{ℕ}
@@ -22,7 +22,7 @@ requestCount = 256
 abbrev pub Slot : Type 0
 Slot = List ℕ
 
--- a data slot
+-- a data slot: gref at byte 0, offset at 4, flags at 6, id at 8, size at 10
 unfoldable pub gref : Slot → ℕ
 gref s = u32At s 0
 
@@ -38,7 +38,7 @@ ident s = u16At s 8
 unfoldable pub size : Slot → ℕ
 size s = u16At s 10
 
--- its flags
+-- its flags: bit 0 checksum blank, 1 data validated, 2 more data, 3 extra follows
 unfoldable pub checksumBlank : Slot → Bool
 checksumBlank s = bit 0 (flags s)
 
@@ -51,7 +51,7 @@ moreData s = bit 2 (flags s)
 unfoldable pub extraFollows : Slot → Bool
 extraFollows s = bit 3 (flags s)
 
--- an extra
+-- an extra: type 1 at byte 0, flags at 1 with bit 0 for another extra, gso size at 2, gso type at 4
 unfoldable pub isExtra : Slot → Bool
 isExtra s = eqb (byteAt s 0) 1
 
@@ -64,29 +64,27 @@ gsoSize s = u16At s 2
 unfoldable pub gsoType : Slot → ℕ
 gsoType s = byteAt s 4
 
--- statuses, as 16-bit two's complement
+-- statuses, as 16-bit two's complement: okay 0, error -1, null 1 for extras
 abbrev pub okay : ℕ
 okay = 0
 
 abbrev pub error : ℕ
 error = 65535
 
-abbrev pub dropped : ℕ
-dropped = 65534
-
 abbrev pub null : ℕ
 null = 1
 
--- a transmit reply: 4 bytes; the slot's other bytes stay
+-- a transmit reply: id and status, 4 bytes; the slot's other bytes stay
 unfoldable pub transmitReply : ℕ → ℕ → List ℕ
 transmitReply i status = u16Bytes i ++ u16Bytes status
 
--- a receive request, and its reply
+-- a receive request: id at byte 0, gref at 4
 unfoldable pub requestIdent : Slot → ℕ
 requestIdent s = u16At s 0
 
 unfoldable pub requestGref : Slot → ℕ
 requestGref s = u32At s 4
 
+-- its reply: id, offset, flags and status, all 8 bytes
 unfoldable pub receiveReply : ℕ → ℕ → ℕ → ℕ → List ℕ
 receiveReply i off fl status = u16Bytes i ++ u16Bytes off ++ u16Bytes fl ++ u16Bytes status

@@ -1,4 +1,4 @@
--- The verdict on a packet or on requests: good, or bad with a cause for 7 and a place.
+-- Document 01, "Causes for 7": the verdict on a packet or on requests, good, or bad with a cause and a place.
 use mathlib.Core.Bool.{Bool, cond}
 use Prim.Native.Nat.{ℕ}
 use Rattle.netif.specs.declared.Verdict.{Verdict}

@@ -9,7 +9,7 @@ use lib.ListN.{length, take, drop, getD, length-take, length-drop}
 use lib.Seq.{take-at, drop-at, getD-take, getD-drop, ext-getD}
 use Rattle.words.specs.Word.{Bytes, u16At, u32At, splice}
 use Rattle.words.proofs.Word.{lt-or-ge, splice-length, splice-before, splice-after, splice-inside, part-same, take-bytes, drop-bytes}
-use Rattle.ring.specs.Ring.{wrap, wadd, wsub, slotPlace, slotAt, slotsFrom, withReplies}
+use Rattle.ring.specs.Ring.{wrap, slotPlace, slotAt, slotsFrom, withReplies}
 
 -- ---- slots of different places, over the width and the count
 
@@ -25,7 +25,7 @@ same-turn n i j h g e =
 
 module _ (w n : ℕ) where
   -- of two places, one ends before the other begins
-  places-apart : (i j : ℕ) → i % n ≢ j % n → (slotPlace w n i + w ≤ slotPlace w n j) ⊎ (slotPlace w n j + w ≤ slotPlace w n i)
+  pub places-apart : (i j : ℕ) → i % n ≢ j % n → (slotPlace w n i + w ≤ slotPlace w n j) ⊎ (slotPlace w n j + w ≤ slotPlace w n i)
   unfolding slotPlace
   places-apart i j h = ⊎-elim (λ k. inl (omega (arith, mul-le-mul-left w k))) (λ k. inr (omega (arith, mul-le-mul-left w (after k)))) (lt-or-ge (i % n) (j % n))
     where
@@ -119,10 +119,7 @@ module _ (w n : ℕ) where
 
   -- one more reply
   pub replies-more : (rs : List (List ℕ)) (page : List ℕ) (i : ℕ) (r : List ℕ) → withReplies w n page i (rs ++ (r ∷ [])) ≡ splice (withReplies w n page i rs) (slotPlace w n (i + length rs)) r
-  replies-more [] page i r = rw add-zero
-  replies-more (q ∷ rs) page i r =
-      replies-more rs (splice page (slotPlace w n i) q) (suc i) r
-      ∙ ap (λ (k : ℕ). splice (withReplies w n (splice page (slotPlace w n i) q) (suc i) rs) (slotPlace w n k) r) (omega arith)
+  replies-more rs page i r = replies-append rs (r ∷ []) page i
 
 -- replies that fit their slots
 abbrev pub Short : ℕ → List (List ℕ) → Type 0
@@ -136,18 +133,18 @@ short-take w (r ∷ rs) (suc i) h = (h .0, short-take w rs i (h .1))
 
 module _ (w n : ℕ) (some : 0 < n) where
   module _ (page : List ℕ) (fits : 64 + w * n ≤ length page) (i : ℕ) (r : List ℕ) (short : length r ≤ w) where
-    reply-fits : slotPlace w n i + length r ≤ length page
+    pub reply-fits : slotPlace w n i + length r ≤ length page
     reply-fits = omega (arith, place-fits w n i (length page) some fits)
 
-    reply-length : length (splice page (slotPlace w n i) r) ≡ length page
+    pub reply-length : length (splice page (slotPlace w n i) r) ≡ length page
     reply-length = splice-length page (slotPlace w n i) r reply-fits
 
-    reply-header : (j : ℕ) → j < 64 → getD (splice page (slotPlace w n i) r) j 0 ≡ getD page j 0
+    pub reply-header : (j : ℕ) → j < 64 → getD (splice page (slotPlace w n i) r) j 0 ≡ getD page j 0
     unfolding slotPlace
     reply-header j h = splice-before page (slotPlace w n i) r reply-fits j (omega arith)
 
     -- a reply leaves every other slot
-    reply-slot : (j : ℕ) → i % n ≢ j % n → slotAt w n (splice page (slotPlace w n i) r) j ≡ slotAt w n page j
+    pub reply-slot : (j : ℕ) → i % n ≢ j % n → slotAt w n (splice page (slotPlace w n i) r) j ≡ slotAt w n page j
     unfolding slotAt
     reply-slot j h =
         part-same (splice page (slotPlace w n i) r) page (slotPlace w n j) w reply-length
@@ -183,7 +180,7 @@ module _ (w n : ℕ) (some : 0 < n) where
   unfolding slotAt
   slot-length page f i = simp (length-take, length-drop) (omega (arith, place-fits w n i (length page) some f))
 
-  reply-here : (page : List ℕ) → 64 + w * n ≤ length page → (i : ℕ) (r : List ℕ) → length r ≤ w → slotAt w n (splice page (slotPlace w n i) r) i ≡ splice (slotAt w n page i) 0 r
+  pub reply-here : (page : List ℕ) → 64 + w * n ≤ length page → (i : ℕ) (r : List ℕ) → length r ≤ w → slotAt w n (splice page (slotPlace w n i) r) i ≡ splice (slotAt w n page i) 0 r
   reply-here page f i r h =
       let e : length (splice page (slotPlace w n i) r) ≡ length page = reply-length page f i r h in
       let size : length (slotAt w n page i) ≡ w = slot-length page f i in

@@ -8,7 +8,7 @@ use lib.ListN.{length, drop, length-append}
 use lib.Seq.{drop-at}
 use Rattle.words.specs.Word.{Bytes}
 use Rattle.ring.specs.Ring.{wrap, wadd, wsub, reqProd, posted, slotAt, slotsFrom}
-use Rattle.ring.proofs.Counters.{wadd-wadd}
+use Rattle.ring.proofs.Counters.{posted-of, wadd-wadd}
 use Rattle.ring.proofs.Ring.{slot-bytes, slot-wrap, slots-wrap, slots-length, slots-split, slots-same}
 
 -- ---- lists of slots of bytes
@@ -62,11 +62,8 @@ module _ (w n : ℕ) (turn : wrap % n ≡ 0) (small : n < wrap) where
 
   module _ {page : List ℕ} {held c : ℕ} {left : List (List ℕ)} (v : Stands page held c left) where
     pub stands-posted : posted page c ≡ length left
-    unfolding posted wsub wadd
-    stands-posted = ap (λ (x : ℕ). wsub x c) (v .requests) ∙ go (length left) (omega (arith, v .few))
-      where
-        go : (k : ℕ) → k < wrap → wsub (wadd c k) c ≡ k
-        go k h = omega arith
+    unfolding posted
+    stands-posted = ap (λ (x : ℕ). wsub x c) (v .requests) ∙ posted-of c (length left) (omega (arith, v .few))
 
     pub stands-slots : slotsFrom w n page c (posted page c) ≡ left
     stands-slots = ap (slotsFrom w n page c) stands-posted ∙ v .stands

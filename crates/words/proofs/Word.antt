@@ -19,9 +19,10 @@ lt-or-ge a zero = inr (omega arith)
 lt-or-ge zero (suc b) = inl (omega arith)
 lt-or-ge (suc a) (suc b) = ⊎-elim (λ h. inl (omega arith)) (λ h. inr (omega arith)) (lt-or-ge a b)
 
-and-left : (a b : Bool) → a && b ≡ true → (a ≡ true) × (b ≡ true)
-and-left true b h = (refl, h)
-and-left false b h = absurd (let z : _≡_ {A = ℕ} 0 1 = cc in omega arith)
+-- of a test that is two tests
+pub and-both : (a b : Bool) → a && b ≡ true → (a ≡ true) × (b ≡ true)
+and-both true b h = (refl, h)
+and-both false b h = absurd (let z : _≡_ {A = ℕ} 0 1 = cc in omega arith)
 
 -- ---- splice
 
@@ -175,7 +176,7 @@ two-bytes x = omega arith
 two-halves : (x : ℕ) → x % 65536 + 65536 * (x / 65536 % 65536) ≡ x % 4294967296
 two-halves x = omega arith
 
-four-bytes : (x : ℕ) → x % 256 + 256 * (x / 256 % 256) + 65536 * (x / 65536 % 256) + 16777216 * (x / 16777216 % 256) ≡ x % 4294967296
+pub four-bytes : (x : ℕ) → x % 256 + 256 * (x / 256 % 256) + 65536 * (x / 65536 % 256) + 16777216 * (x / 16777216 % 256) ≡ x % 4294967296
 four-bytes x =
     let low : x % 256 + 256 * (x / 256 % 256) ≡ x % 65536 = two-bytes x in
     let high : x / 65536 % 256 + 256 * (x / 65536 / 256 % 256) ≡ x / 65536 % 65536 = two-bytes (x / 65536) in
@@ -206,8 +207,8 @@ allBytes (x ∷ l) = ltb x 256 && allBytes l
 pub bytes-of : (l : List ℕ) → allBytes l ≡ true → Bytes l
 unfolding Bytes
 bytes-of [] h i = omega arith
-bytes-of (x ∷ l) h zero = ltb-true x 256 (and-left (ltb x 256) (allBytes l) h .0)
-bytes-of (x ∷ l) h (suc i) = bytes-of l (and-left (ltb x 256) (allBytes l) h .1) i
+bytes-of (x ∷ l) h zero = ltb-true x 256 (and-both (ltb x 256) (allBytes l) h .0)
+bytes-of (x ∷ l) h (suc i) = bytes-of l (and-both (ltb x 256) (allBytes l) h .1) i
 
 module _ (l : List ℕ) (bytes : Bytes l) where
   pub u16-small : (i : ℕ) → u16At l i < 65536

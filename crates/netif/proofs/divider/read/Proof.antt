@@ -1,14 +1,6 @@
 -- `divider::read` meets its contract: the scan starts behind the first slot, goes on behind the extras, and ends where a stage ends it.
-use mathlib.Core.Path.{_≡_, refl, sym, ap, _∙_}
-use mathlib.Core.Bool.{Bool, true, false}
-use Prim.Native.Nat.{_+_}
-use native.Mathlib.Omega.{arith}
-use Rattle.ring.specs.Ring.{slotAt, slotsFrom}
-use Rattle.netif.specs.Divide.{Cut, whole, scan}
-use Rattle.netif.specs.Front.{goingOn, behind}
 use borrow.Author.Needs.{needs}
-use Rattle.netif.proofs.Loop.{more-bit, follows-bit}
-use Rattle.netif.proofs.Reading.{read-beginning, read-misshapen, first-read}
+use Rattle.netif.proofs.Reading.{read-beginning, read-misshapen, extras-read}
 use Rattle.netif.proofs.divider.read.Statement.{statement}
 use Rattle.netif.proofs.divider.read.Tie as tie
 use Rattle.netif.proofs.divider.read.Reads as reads
@@ -50,21 +42,20 @@ enum-told-3 c = search needs
 -- src/divider.rt:161:25
 read-rest-requires : tie.Need-read-rest-requires
 read-rest-requires c κs =
-    let a = c .before .before .before .before .before .before .before .before .args in
+    let s = c .before .before .before .before .before .before .before .before in
+    let a = s .args in
     let h = c .before .before .before .before .before .before .at in
     let x = c .before .before .before .before .extra-follows in
     let m = c .before .before .before .before .before .more-data in
-    let e = c .before .before .before .read-extras in
-    let rest = scan (behind (a .page .now) (a .first) (a .posted) (e .result .count + 1)) 1 (e .result .count) false (m .result) in
-    let start = first-read (a .page .now) (a .first) (a .posted) (x .result) (m .result) (c .before .before .before .before .before .before .before .before .pre .1) (x .ensures ∙ follows-bit _ (h .result) (h .ensures)) (m .ensures ∙ more-bit _ (h .result) (h .ensures)) in (
+    let e = c .before .before .before .read-extras in (
       search needs,
       search needs,
-      c .before .before .before .before .before .before .before .before .pre .3,
+      s .pre .3,
       record {
         isFirst = h .ensures;
         few = e .ensures .few;
         limit = e .ensures .limit;
-        rest = start ∙ e .ensures .rest ∙ ap (λ s. goingOn s rest) (c .before .enum-told3 .given .1);
+        rest = extras-read (a .page .now) (a .first) (a .posted) (h .result) (x .result) (m .result) (e .result) (s .pre .1) (h .ensures) (x .ensures) (m .ensures) (e .ensures) _ (c .before .enum-told3 .given .1);
         gsoSize = e .ensures .gsoSize;
         gsoType = e .ensures .gsoType;
       },
@@ -73,26 +64,24 @@ read-rest-requires c κs =
 -- src/divider.rt:150:1
 returns : tie.Need-returns
 returns c =
-    let a = c .before .before .before .before .before .before .before .args in
+    let s = c .before .before .before .before .before .before .before in
+    let a = s .args in
     let h = c .before .before .before .before .before .at in
     let x = c .before .before .before .extra-follows in
     let m = c .before .before .before .before .more-data in
     let e = c .before .before .read-extras in
-    let rest = scan (behind (a .page .now) (a .first) (a .posted) (e .result .count + 1)) 1 (e .result .count) false (m .result) in
-    let start = first-read (a .page .now) (a .first) (a .posted) (x .result) (m .result) (c .before .before .before .before .before .before .before .pre .1) (x .ensures ∙ follows-bit _ (h .result) (h .ensures)) (m .ensures ∙ more-bit _ (h .result) (h .ensures)) in
-    read-misshapen _ _ _ (start ∙ e .ensures .rest ∙ ap (λ s. goingOn s rest) (c .enum-told .given .1))
+    read-misshapen _ _ _ (extras-read (a .page .now) (a .first) (a .posted) (h .result) (x .result) (m .result) (e .result) (s .pre .1) (h .ensures) (x .ensures) (m .ensures) (e .ensures) _ (c .enum-told .given .1))
 
 -- src/divider.rt:150:1
 returns-2 : tie.Need-returns-2
 returns-2 c =
-    let a = c .before .before .before .before .before .before .before .args in
+    let s = c .before .before .before .before .before .before .before in
+    let a = s .args in
     let h = c .before .before .before .before .before .at in
     let x = c .before .before .before .extra-follows in
     let m = c .before .before .before .before .more-data in
     let e = c .before .before .read-extras in
-    let rest = scan (behind (a .page .now) (a .first) (a .posted) (e .result .count + 1)) 1 (e .result .count) false (m .result) in
-    let start = first-read (a .page .now) (a .first) (a .posted) (x .result) (m .result) (c .before .before .before .before .before .before .before .pre .1) (x .ensures ∙ follows-bit _ (h .result) (h .ensures)) (m .ensures ∙ more-bit _ (h .result) (h .ensures)) in
-    read-beginning _ _ _ (start ∙ e .ensures .rest ∙ ap (λ s. goingOn s rest) (c .enum-told2 .given .1))
+    read-beginning _ _ _ (extras-read (a .page .now) (a .first) (a .posted) (h .result) (x .result) (m .result) (e .result) (s .pre .1) (h .ensures) (x .ensures) (m .ensures) (e .ensures) _ (c .enum-told2 .given .1))
 
 -- src/divider.rt:150:1
 returns-3 : tie.Need-returns-3
