@@ -12,7 +12,8 @@ use borrow.Author.Tests.{eq-eqb, ne-eqb}
 use Rattle.words.specs.Word.{splice, bit}
 use Rattle.words.proofs.Word.{splice-more}
 use Rattle.ring.specs.Ring.{wadd, slotAt, slotsFrom}
-use Rattle.ring.proofs.Ring.{slot-wrap, slots-at, slots-length, slots-snoc}
+use Rattle.ring.proofs.Ring.{slots-at, slots-length, slots-snoc}
+use Rattle.ring.proofs.Replied.{slot-ahead, slots-ahead}
 use Rattle.netif.specs.Slot.{Slot, flags, size, moreData, extraFollows, isExtra, anotherExtra, gsoSize, gsoType}
 use Rattle.netif.specs.Decode.{dataOf, extraOf}
 use Rattle.netif.specs.Grammar.{within}
@@ -61,24 +62,17 @@ nothing-owed (s ∷ l) d e w = rw w
 -- ---- the slots of a page
 
 module _ (page : List ℕ) (first posted : ℕ) where
-  this : (n i : ℕ) → n ≡ wadd first i → slotAt 12 256 page n ≡ slotAt 12 256 page (first + i)
-  unfolding wadd
-  this n i h = ap (slotAt 12 256 page) h ∙ slot-wrap 12 256 page (first + i) refl
-
   pub behind-none : (i : ℕ) → i ≡ posted → behind page first posted i ≡ []
   behind-none i h =
       let z : posted - i ≡ 0 = omega arith in
       rw z
 
   pub behind-more : (n i : ℕ) → i < posted → n ≡ wadd first i → behind page first posted i ≡ slotAt 12 256 page n ∷ behind page first posted (i + 1)
-  behind-more n i k h =
-      let z : posted - i ≡ suc (posted - (i + 1)) = omega arith in
-      let p : first + (i + 1) ≡ suc (first + i) = omega arith in
-      rw (z, p, this n i h)
+  behind-more n i k h = slots-ahead 12 256 refl page first n i posted k h
 
   -- a packet's extra at its place
   slot-here : (n i : ℕ) → i < posted → n ≡ wadd first i → getD (slotsFrom 12 256 page first posted) i [] ≡ slotAt 12 256 page n
-  slot-here n i k h = slots-at 12 256 page posted first i k ∙ sym (this n i h)
+  slot-here n i k h = slots-at 12 256 page posted first i k ∙ sym (slot-ahead 12 256 refl page first n i h)
 
   pub gso-size-next : (n e : ℕ) → e + 1 < posted → n ≡ wadd first (e + 1) → gsoSizeOf (e + 1) (slotsFrom 12 256 page first posted) ≡ gsoSize (slotAt 12 256 page n)
   gso-size-next n e k h = rw add-one (ap gsoSize (rw add-one at (slot-here n (e + 1) k h)))
@@ -94,7 +88,7 @@ sizes-snoc (x ∷ l) s = rw (sizes-snoc l s) (omega arith)
 
 module _ (page : List ℕ) (first n i k : ℕ) (here : n ≡ wadd first (i + k)) where
   slot-there : slotAt 12 256 page n ≡ slotAt 12 256 page (first + i + k)
-  slot-there = this page first 0 n (i + k) here ∙ ap (slotAt 12 256 page) (sym (add-assoc first i k))
+  slot-there = slot-ahead 12 256 refl page first n (i + k) here ∙ ap (slotAt 12 256 page) (sym (add-assoc first i k))
 
   pub sum-next : (v : ℕ) → v ≡ size (slotAt 12 256 page n) → sizes (slotsFrom 12 256 page (first + i) k) + v ≡ sizes (slotsFrom 12 256 page (first + i) (k + 1))
   sum-next v h =

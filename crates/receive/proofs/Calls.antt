@@ -17,7 +17,7 @@ use Rattle.netif.specs.declared.Answer.{Answer}
 use Rattle.netif.specs.declared.Answer.the-variants as answer
 use Rattle.netif.specs.declared.Verdict.{Verdict}
 use Rattle.netif.specs.declared.Verdict.the-variants.{Good, Bad}
-use Rattle.receive.specs.Put.{badLength, needed, requestsFrom, pagesNamed, judge, scatter, errorReplies, pieceReplies, receiveReport, Delivery, told, replied, refuse, deliver, settle, receivePut, Delivered}
+use Rattle.receive.specs.Put.{badLength, needed, requestsFrom, pagesNamed, scatter, errorReplies, pieceReplies, receiveReport, Delivery, told, refuse, deliver, settle, receivePut, Delivered}
 use Rattle.receive.specs.Stages.{AllUsable, Judged, Finished}
 use Rattle.receive.proofs.Requests.{good-usable}
 use Rattle.receive.proofs.Pieces.{errors-notify, pieces-notify}
@@ -79,11 +79,11 @@ module _ (table window page : List ℕ) (old count : ℕ) (pages : List ℕ) (v 
 
   module _ (frame : List ℕ) (r : Outcome) (ring′ window′ : List ℕ) where
     pub settled-bad : (cause place : ℕ) → v ≡ Bad cause place → Delivered (refuse old page window (requestsFrom page old count) cause place) r ring′ window′
-        → Delivered (settle table old page window (requestsFrom page old count) frame (judge table window 0 (requestsFrom page old count))) r ring′ window′
+        → Delivered (settle table old page window (requestsFrom page old count) frame) r ring′ window′
     settled-bad cause place h d = rw (← judged .verdict, h) d
 
     pub settled-good : v ≡ Good → Delivered (deliver old page window (requestsFrom page old count) (take count pages) frame) r ring′ window′
-        → Delivered (settle table old page window (requestsFrom page old count) frame (judge table window 0 (requestsFrom page old count))) r ring′ window′
+        → Delivered (settle table old page window (requestsFrom page old count) frame) r ring′ window′
     settled-good h d = rw (← judged .verdict, h) (rw (named h) at d)
 
 -- ---- the call
@@ -125,6 +125,6 @@ module _ (table : List ℕ) (q : Queue) (page window frame : List ℕ) where
           unfolding receivePut
           put-no-buffers h = rw (sized, fine, runs, ← counts, le-ltb 256 m room, ← needs, lt-ltb m k h)
 
-          pub put-settled : k ≤ m → receivePut table q page window frame ≡ settle table (q .consumed) page window (requestsFrom page (q .consumed) k) frame (judge table window 0 (requestsFrom page (q .consumed) k))
+          pub put-settled : k ≤ m → receivePut table q page window frame ≡ settle table (q .consumed) page window (requestsFrom page (q .consumed) k) frame
           unfolding receivePut
           put-settled h = rw (sized, fine, runs, ← counts, le-ltb 256 m room, ← needs, le-ltb m k h)

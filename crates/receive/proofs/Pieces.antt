@@ -17,19 +17,20 @@ use Rattle.ring.proofs.Ring.{Short, place-fits, slots-at, slots-length, slot-u1
 use Rattle.grant.specs.Grant.{withPage}
 use Rattle.netif.specs.Slot.{Slot, error, requestIdent, receiveReply}
 use Rattle.receive.specs.Put.{requestsFrom, scatter, replyFlags, pieceReplies, errorReply, errorReplies}
-use Rattle.receive.proofs.Replied.{reply-next, notify-replied}
-use Rattle.receive.proofs.Splices.{splice-next, take-min, part-cons, map-at}
+use Rattle.ring.proofs.Replied.{reply-next, notify-replied}
+use Rattle.words.proofs.Lists.{take-min, part-cons, map-at}
+use Rattle.words.proofs.Word.{splice-join}
 
 -- ---- the pieces written
 
 -- piece i, as the part of the frame that the code cuts out
-pub piece-cut : (frame : List ℕ) (a m n : ℕ) → n ≡ min 4096 (length frame - a) → m ≡ n → take m (drop a frame) ≡ take 4096 (drop a frame)
+piece-cut : (frame : List ℕ) (a m n : ℕ) → n ≡ min 4096 (length frame - a) → m ≡ n → take m (drop a frame) ≡ take 4096 (drop a frame)
 piece-cut frame a m n h e =
     let k : m ≡ min 4096 (length (drop a frame)) = e ∙ h ∙ ap (min 4096) (sym (length-drop a frame)) in
     rw k (take-min 4096 (drop a frame))
 
 -- one more piece
-pub scatter-next : (window pages frame : List ℕ) (i count : ℕ) → i < count → count ≤ length pages
+scatter-next : (window pages frame : List ℕ) (i count : ℕ) → i < count → count ≤ length pages
     → scatter window (take (count - i) (drop i pages)) (drop (4096 * i) frame)
     ≡ scatter (withPage window (getD pages i 0) (take 4096 (drop (4096 * i) frame))) (take (count - (i + 1)) (drop (i + 1) pages)) (drop (4096 * (i + 1)) frame)
 scatter-next window pages frame i count h g =
@@ -37,6 +38,21 @@ scatter-next window pages frame i count h g =
     ap (λ (l : List ℕ). scatter window l (drop (4096 * i) frame)) (part-cons pages 0 i count h g)
     ∙ ap (scatter (withPage window (getD pages i 0) (take 4096 (drop (4096 * i) frame))) (take (count - (i + 1)) (drop (i + 1) pages)))
     (drop-drop 4096 (4096 * i) frame ∙ ap (λ (x : ℕ). drop x frame) e)
+
+-- one turn of the loop, which cuts the piece out of the frame
+pub scatter-turn : (window next pages frame : List ℕ) (i count n : ℕ) → i < count → count ≤ length pages → n ≡ min 4096 (length frame - 4096 * i)
+    → next ≡ withPage window (getD pages i 0) (take (4096 * i + n - 4096 * i) (drop (4096 * i) frame))
+    → scatter window (take (count - i) (drop i pages)) (drop (4096 * i) frame) ≡ scatter next (take (count - (i + 1)) (drop (i + 1) pages)) (drop (4096 * (i + 1)) frame)
+scatter-turn window next pages frame i count n h g m e =
+    let piece : take (4096 * i + n - 4096 * i) (drop (4096 * i) frame) ≡ take 4096 (drop (4096 * i) frame) = piece-cut frame (4096 * i) (4096 * i + n - 4096 * i) n m (omega arith) in
+    scatter-next window pages frame i count h g
+    ∙ ap (λ (w : List ℕ). scatter w (take (count - (i + 1)) (drop (i + 1) pages)) (drop (4096 * (i + 1)) frame)) (sym (e ∙ ap (withPage window (getD pages i 0)) piece))
+
+-- no piece is left
+pub scatter-last : (window pages frame : List ℕ) (i count : ℕ) → i ≡ count → scatter window (take (count - i) (drop i pages)) (drop (4096 * i) frame) ≡ window
+scatter-last window pages frame i count h =
+    let none : count - i ≡ 0 = omega arith in
+    ap (λ (k : ℕ). scatter window (take k (drop i pages)) (drop (4096 * i) frame)) none
 
 -- ---- the replies
 
@@ -105,16 +121,16 @@ module _ (page : List ℕ) (n : ℕ) where
   pair-length x y = refl
 
   pub reply-stored : (mid last : List ℕ) (at id flags status : ℕ) → length page ≡ 4096 → at ≡ slotPlace 8 256 n → id ≡ u16At page at
-      → mid ≡ splice page at (u16Bytes id ++ u16Bytes 0) → last ≡ splice mid (at + 4) (u16Bytes flags ++ u16Bytes status)
+      → mid ≡ splice page (slotPlace 8 256 n) (u16Bytes id ++ u16Bytes 0) → last ≡ splice mid (at + 4) (u16Bytes flags ++ u16Bytes status)
       → last ≡ splice page (slotPlace 8 256 n) (receiveReply (requestIdent (slotAt 8 256 page n)) 0 flags status)
   unfolding receiveReply
   reply-stored mid last at id flags status size a r p q =
       let same : requestIdent (slotAt 8 256 page n) ≡ id = id-here ∙ sym (r ∙ ap (u16At page) a) in
       q
       ∙ ap (λ (x : List ℕ). splice x (at + 4) (u16Bytes flags ++ u16Bytes status)) p
-      ∙ splice-next page at (at + 4) (u16Bytes id ++ u16Bytes 0) (u16Bytes flags ++ u16Bytes status) (omega (arith, pair-length id 0))
+      ∙ splice-join page (slotPlace 8 256 n) (u16Bytes id ++ u16Bytes 0) (u16Bytes flags ++ u16Bytes status) (at + 4) (omega (arith, pair-length id 0))
       (omega (arith, pair-length id 0, place-fits 8 256 n 4096 (omega arith) (omega arith)))
-      ∙ sym (rw (same, ← a, append-assoc (u16Bytes id ++ u16Bytes 0) (u16Bytes flags) (u16Bytes status)))
+      ∙ sym (rw (same, append-assoc (u16Bytes id ++ u16Bytes 0) (u16Bytes flags) (u16Bytes status)))
 
 -- ---- the loops that reply
 

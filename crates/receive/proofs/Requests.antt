@@ -9,7 +9,7 @@ use native.Mathlib.Numerals.{add-one}
 use lib.ListN.{length, take, set}
 use lib.Seq.{take-suc-set}
 use Rattle.ring.specs.Ring.{wadd, slotAt}
-use Rattle.ring.proofs.Ring.{slots-snoc}
+use Rattle.ring.proofs.Ring.{slots-snoc, slots-length}
 use Rattle.grant.specs.Grant.{fitReceive, pageOf}
 use Rattle.grant.specs.Found.{writePage}
 use Rattle.grant.specs.declared.Page.the-variants as found
@@ -21,20 +21,29 @@ use Rattle.netif.specs.declared.Request.{Request}
 use Rattle.netif.specs.declared.Verdict.{Verdict}
 use Rattle.netif.specs.declared.Verdict.the-variants.{Good, Bad}
 use Rattle.receive.specs.Put.{requestsFrom, pageNamed, pagesNamed, judge}
-use Rattle.receive.specs.Stages.{AllUsable}
-use Rattle.receive.proofs.Replied.{slot-ahead, slots-ahead}
+use Rattle.receive.specs.Stages.{AllUsable, Judged}
+use Rattle.ring.proofs.Replied.{slot-ahead, slots-ahead}
 
 pub gref-field : (s : Slot) (r : Request) → r ≡ requestOf s → r .gref ≡ requestGref s
 unfolding requestOf
 gref-field s r h = ap (λ (x : Request). x .gref) h
 
+not-good : (c k : ℕ) → Bad c k ≡ Good → ⊥
+not-good c k h = let z : _≡_ {A = ℕ} 0 1 = cc in omega arith
+
 module _ (table window page : List ℕ) (first count n i : ℕ) (here : n ≡ wadd first i) (r : Request) (reads : r ≡ requestOf (slotAt 8 256 page n)) where
   grefs : r .gref ≡ requestGref (slotAt 8 256 page n)
   grefs = gref-field (slotAt 8 256 page n) r reads
 
-  pub judge-unfit : i < count → found.Unfit ≡ writePage table window (r .gref) → judge table window i (requestsFrom page (first + i) (count - i)) ≡ Bad 4 i
+  judge-unfit : i < count → found.Unfit ≡ writePage table window (r .gref) → judge table window i (requestsFrom page (first + i) (count - i)) ≡ Bad 4 i
   judge-unfit k h = rw (slots-ahead 8 256 refl page first n i count k here, write-unfit table window (requestGref (slotAt 8 256 page n)) (rw grefs at h))
 
+  -- it is unfit
+  pub judged-unfit : (pages : List ℕ) → length pages ≡ 16 → judge table window 0 (requestsFrom page first count) ≡ judge table window i (requestsFrom page (first + i) (count - i))
+      → i < count → found.Unfit ≡ writePage table window (r .gref) → Judged table window (requestsFrom page first count) pages (Bad 4 i)
+  judged-unfit pages s inv k h = record { verdict = sym (inv ∙ judge-unfit k h); sized = s; named = λ g. absurd (not-good 4 i g) }
+
+  -- it is fit
   module _ (p : ℕ) (fit : found.Fit p ≡ writePage table window (r .gref)) where
     fits : (fitReceive table window (requestGref (slotAt 8 256 page n)) ≡ true) × (p ≡ pageNamed table (slotAt 8 256 page n))
     fits = write-fit table window (requestGref (slotAt 8 256 page n)) p (rw grefs at fit)
@@ -51,8 +60,18 @@ module _ (table window page : List ℕ) (first count n i : ℕ) (here : n ≡ wa
         ∙ sym (map-append (pageNamed table) (requestsFrom page first i) (slotAt 8 256 page (first + i) ∷ []))
         ∙ sym (ap (pagesNamed table) (slots-snoc 8 256 page i first))
 
-pub not-good : (c k : ℕ) → Bad c k ≡ Good → ⊥
-not-good c k h = let z : _≡_ {A = ℕ} 0 1 = cc in omega arith
+-- none is left
+pub judged-good : (table window page : List ℕ) (first count i : ℕ) (pages : List ℕ) → length pages ≡ 16
+    → judge table window 0 (requestsFrom page first count) ≡ judge table window i (requestsFrom page (first + i) (count - i)) → take i pages ≡ pagesNamed table (requestsFrom page first i)
+    → i ≡ count → Judged table window (requestsFrom page first count) pages Good
+judged-good table window page first count i pages s inv named h =
+    let none : count - i ≡ 0 = omega arith in
+    let all : length (requestsFrom page first count) ≡ i = slots-length 8 256 page count first ∙ sym h in
+    record {
+      verdict = sym (inv ∙ ap (λ (k : ℕ). judge table window i (requestsFrom page (first + i) k)) none);
+      sized = s;
+      named = λ g. rw all (named ∙ ap (λ (k : ℕ). pagesNamed table (requestsFrom page first k)) h);
+    }
 
 -- the verdict on requests that are all fit
 rest-good : (b : Bool) (k : ℕ) (v : Verdict) → test (not b) 4 k orElse v ≡ Good → (b ≡ true) × (v ≡ Good)

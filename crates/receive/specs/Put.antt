@@ -19,10 +19,11 @@ use Rattle.netif.specs.declared.Verdict.the-variants.{Good, Bad}
 unfoldable pub badLength : ℕ → Bool
 badLength n = ltb n 14 || ltb 65535 n
 
--- a frame goes out in pieces of so many bytes, the last perhaps shorter, and needs a request for each
+-- a frame goes out in pieces of so many bytes, the last perhaps shorter
 abbrev pub pieceSize : ℕ
 pieceSize = 4096
 
+-- the requests that it needs, one for each piece: its length by the size of a piece, rounded up
 unfoldable pub needed : ℕ → ℕ
 needed n = (n + 4095) / pieceSize
 
@@ -118,21 +119,24 @@ deliver old page window requests pages frame =
     }
 
 module _ (table : List ℕ) where
-  -- the requests that the frame needs are consumed, by what is found of them
-  abbrev pub settle : (old : ℕ) (page window : List ℕ) (requests : List Slot) (frame : List ℕ) → Verdict → Delivery
-  settle old page window requests frame (Bad cause place) = refuse old page window requests cause place
-  settle old page window requests frame Good = deliver old page window requests (pagesNamed table requests) frame
+  -- requests are consumed, by what is found of them
+  abbrev pub consume : (old : ℕ) (page window : List ℕ) (requests : List Slot) (frame : List ℕ) → Verdict → Delivery
+  consume old page window requests frame (Bad cause place) = refuse old page window requests cause place
+  consume old page window requests frame Good = deliver old page window requests (pagesNamed table requests) frame
+
+  -- all are tested before anything is written
+  abbrev pub settle : (old : ℕ) (page window : List ℕ) (requests : List Slot) (frame : List ℕ) → Delivery
+  settle old page window requests frame = consume old page window requests frame (judge table window 0 requests)
 
   -- the call: bad page, bad length, halted already, overflow, no buffers, and then spoiled or done
   unfoldable pub receivePut : Queue → List ℕ → List ℕ → List ℕ → Delivery
   receivePut q page window frame =
-      let requests = requestsFrom page (q .consumed) (needed (length frame)) in
       cond (not (eqb (length page) pageSize)) (told 1 q page window)
       (cond (badLength (length frame)) (told 9 q page window)
       (cond (q .halted) (told 2 q page window)
       (cond (ltb requestCount (posted page (q .consumed))) (told 3 (halt q) page window)
       (cond (ltb (posted page (q .consumed)) (needed (length frame))) (told 10 q (asking page) window)
-      (settle (q .consumed) page window requests frame (judge table window 0 requests))))))
+      (settle (q .consumed) page window (requestsFrom page (q .consumed) (needed (length frame))) frame)))))
 
 -- a call's answer, queue, ring page and window are those of a delivery
 pub record Delivered (d : Delivery) (r : Outcome) (ring′ window′ : List ℕ) : Type 0 where

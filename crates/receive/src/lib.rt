@@ -5,9 +5,10 @@ ghost use mathlib.Core.List.{List};
 ghost use lib.ListN.{length, take};
 ghost use Rattle.words.specs.Word.{splice};
 ghost use Rattle.ring.specs.Ring.{pageSize, slotPlace, slotAt, withReplies};
+ghost use Rattle.grant.specs.Found.{writePage};
 ghost use Rattle.netif.specs.Slot.{requestWidth, requestCount, requestIdent, receiveReply};
 ghost use Rattle.netif.specs.Report.{halt, goOn};
-ghost use Rattle.receive.specs.Put.{pieceSize, badLength, needed, requestsFrom, replyFlags, scatter, pieceReplies, errorReplies, judge, refuse, deliver, settle, receivePut, Delivered};
+ghost use Rattle.receive.specs.Put.{pieceSize, badLength, needed, requestsFrom, replyFlags, scatter, pieceReplies, errorReplies, refuse, deliver, settle, receivePut, Delivered};
 ghost use Rattle.receive.specs.Stages.{AllUsable, Judged, Finished};
 use grant::Page;
 use netif::Answer;
@@ -23,6 +24,13 @@ const LONGEST: usize = 65535;
 
 const PIECE: usize = 4096;
 
+// The requests that the longest frame needs.
+const MOST: usize = 16;
+
+// Where a reply has its flags and its status.
+const FLAGS: usize = 4;
+
+// The cause of a request whose grant is not fit.
 const UNFIT: u32 = 4;
 
 const MORE: u16 = 4;
@@ -56,7 +64,7 @@ fn go_on(consumed: u32) -> Queue
     }
 }
 
-// Whether no frame is so long.
+// Whether a length is none that a frame may have.
 fn bad_length(size: usize) -> bool
     ensures { λ r. ⌜ r ≡ badLength size ⌝ }
 {
@@ -68,7 +76,7 @@ fn needed(size: usize) -> u32
     requires { ⌜ size ≤ 65535 ⌝ }
     ensures { λ r. ⌜ r ≡ needed size ⌝ }
 {
-    ((size + 4095) / PIECE) as u32
+    ((size + (PIECE - 1)) / PIECE) as u32
 }
 
 // The length of piece i of a frame.
@@ -80,6 +88,13 @@ fn piece_of(size: usize, i: usize) -> usize
     if left < PIECE { left } else { PIECE }
 }
 
+// The page that a request names, if its grant is fit to be written.
+fn page_of(grants: &[u8], window: &[u8], request: Request) -> Page
+    ensures { λ r. ⌜ r ≡ writePage (now (grants .entry)) (now (window .entry)) (request .gref) ⌝ }
+{
+    grant::fit_to_write(grants, window, request.gref)
+}
+
 // Whether all requests that a frame needs are fit, or the first that is not. The table gets the pages that they name, so that
 // a reference is read once.
 fn judge(
@@ -88,7 +103,7 @@ fn judge(
     ring: &[u8],
     first: u32,
     count: u32,
-    pages: &mut [u32; 16],
+    pages: &mut [u32; MOST],
 ) -> Verdict
     requires { ⌜ (length (now ring) ≡ pageSize) × (count ≤ 16) × (length (now pages) ≡ 16) ⌝ }
     ensures { λ r. ⌜ Judged (now (grants .entry)) (now (window .entry)) (requestsFrom (now (ring .entry)) first count) (now (pages .exit)) r ⌝ }
@@ -96,7 +111,7 @@ fn judge(
     let mut i: u32 = 0;
     while i < count {
         let request = Request::at(ring, ring::ahead(first, i));
-        let Page::Fit(page) = grant::fit_to_write(grants, window, request.gref) else {
+        let Page::Fit(page) = page_of(grants, window, request) else {
             return Verdict::Bad {
                 cause: UNFIT,
                 place: i,
@@ -109,7 +124,7 @@ fn judge(
 }
 
 // Writes the pieces of a frame to the pages of the table, in order.
-fn scatter(window: &mut [u8], pages: &[u32; 16], count: usize, frame: &[u8])
+fn scatter(window: &mut [u8], pages: &[u32; MOST], count: usize, frame: &[u8])
     requires { ⌜ (length (now pages) ≡ 16) × (count ≤ 16) × (pieceSize * count ≤ length (now frame) + 4095) × AllUsable (length (now window)) (take count (now pages)) ⌝ }
     ensures { λ _. ⌜ now (window .exit) ≡ scatter (now (window .entry)) (take count (now (pages .entry))) (now (frame .entry)) ⌝ }
 {
@@ -136,8 +151,8 @@ fn reply(ring: &mut [u8], n: u32, flags: u16, status: u16)
 {
     let at = ring::place(Request::WIDTH, Request::COUNT, n);
     let id = words::u16_at(ring, at);
-    words::put_pair(ring, at, id, 0);
-    words::put_pair(ring, at + 4, flags, status);
+    ring::reply(ring, Request::WIDTH, Request::COUNT, n, id, 0);
+    words::put_pair(ring, at + FLAGS, flags, status);
 }
 
 // Replies to the requests that got the pieces of a frame.
@@ -179,7 +194,7 @@ fn finish(ring: &mut [u8], old: u32, new: u32) -> bool
     ring::notify(ring, old, new)
 }
 
-// Consumes requests of which one is unfit: each gets an error.
+// Consumes requests of which one is unfit: each gets an error. The window is not lent, so it stays.
 fn refuse(ring: &mut [u8], old: u32, count: u32, cause: u32, place: u32) -> Outcome
     requires { ⌜ (length (now ring) ≡ pageSize) × (count ≤ 16) ⌝ }
     ensures { λ r. ⌜ ((window : List ℕ) → Delivered (refuse old (now (ring .entry)) window (requestsFrom (now (ring .entry)) old count) cause place) r (now (ring .exit)) window) ⌝ }
@@ -203,7 +218,7 @@ fn deliver(
     ring: &mut [u8],
     old: u32,
     count: u32,
-    pages: &[u32; 16],
+    pages: &[u32; MOST],
     frame: &[u8],
 ) -> Outcome
     requires { ⌜ (length (now ring) ≡ pageSize) × (length (now pages) ≡ 16) × (length (now frame) ≤ 65535) × (count ≡ needed (length (now frame))) × AllUsable (length (now window)) (take count (now pages)) ⌝ }
@@ -235,9 +250,9 @@ fn settle(
     frame: &[u8],
 ) -> Outcome
     requires { ⌜ (length (now ring) ≡ pageSize) × (length (now frame) ≤ 65535) × (count ≡ needed (length (now frame))) ⌝ }
-    ensures { λ r. ⌜ Delivered (settle (now (grants .entry)) old (now (ring .entry)) (now (window .entry)) (requestsFrom (now (ring .entry)) old count) (now (frame .entry)) (judge (now (grants .entry)) (now (window .entry)) 0 (requestsFrom (now (ring .entry)) old count))) r (now (ring .exit)) (now (window .exit)) ⌝ }
+    ensures { λ r. ⌜ Delivered (settle (now (grants .entry)) old (now (ring .entry)) (now (window .entry)) (requestsFrom (now (ring .entry)) old count) (now (frame .entry))) r (now (ring .exit)) (now (window .exit)) ⌝ }
 {
-    let mut pages = [0u32; 16];
+    let mut pages = [0u32; MOST];
     match judge(grants, window, ring, old, count, &mut pages) {
         Verdict::Bad { cause, place } => refuse(ring, old, count, cause, place),
         Verdict::Good => deliver(window, ring, old, count, &pages, frame),

@@ -10,6 +10,7 @@ use native.Mathlib.Numerals.{add-one}
 use lib.ListN.{length, take, drop, getD, set, length-map}
 use lib.Seq.{getD-take, take-at}
 use Rattle.words.specs.Word.{splice, bit}
+use Rattle.words.proofs.Lists.{map-at}
 use borrow.Author.Tests.{eq-eqb, ne-eqb}
 use Rattle.ring.specs.Ring.{wadd, slotAt, slotsFrom}
 use Rattle.ring.proofs.Ring.{slot-wrap, slots-at, slots-length, slots-drop}
@@ -204,11 +205,6 @@ module _ (o : Outline) (e : ℕ) (p : List Slot) (h : o ≡ outlineOf e p) where
 
 -- ---- the tables
 
-pub column-at : (f : Slot → ℕ) (l : List Slot) (j : ℕ) → j < length l → getD (map f l) j 0 ≡ f (getD l j [])
-column-at f [] j h = absurd (omega arith)
-column-at f (s ∷ l) zero h = refl
-column-at f (s ∷ l) (suc j) h = column-at f l j (omega arith)
-
 module _ (table : List ℕ) (e : ℕ) (p : List Slot) (held : HoldsParts table e p) where
   -- the first slot's part, and the later ones'
   pub own-held : getD table 0 0 ≡ ownPart e p
@@ -219,7 +215,7 @@ module _ (table : List ℕ) (e : ℕ) (p : List Slot) (held : HoldsParts table e
   unfolding HoldsParts parts SizesOf
   later-held j k =
       sym (getD-take (length (datasOf e p)) table (j + 1) 0 (omega arith)) ∙ ap (λ (l : List ℕ). getD l (j + 1) 0) held
-      ∙ ap (λ (x : ℕ). getD (ownPart e p ∷ map size (laterOf e p)) x 0) (add-one j) ∙ column-at size (laterOf e p) j k
+      ∙ ap (λ (x : ℕ). getD (ownPart e p ∷ map size (laterOf e p)) x 0) (add-one j) ∙ map-at size (laterOf e p) j [] 0 k
 
 -- a table with the first place set and the others behind it
 pub column-front : (t : List ℕ) (v : ℕ) (b : List ℕ) (n : ℕ) → 0 < length t → n ≡ suc (length b) → take n (splice (set t 0 v) 1 b) ≡ v ∷ b

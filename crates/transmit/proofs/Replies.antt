@@ -2,14 +2,17 @@
 -- in each slot afterwards.
 use mathlib.Core.Path.{_≡_, refl, sym, ap, _∙_}
 use mathlib.Core.List.{List, [], _∷_, _++_, map, map-append}
-use Prim.Native.Nat.{ℕ, zero, suc, _+_, _-_, _≤_, _<_}
+use Prim.Native.Nat.{ℕ, suc, _+_, _%_, _≤_, _<_}
+use native.Mathlib.Nat.{add-assoc}
 use native.Mathlib.Omega.{arith}
 use native.Mathlib.Numerals.{add-one}
 use lib.ListN.{length, take, drop, length-map}
-use lib.Seq.{take-at, drop-at}
+use lib.Seq.{take-at, drop-at, take-all}
+use Rattle.words.proofs.Lists.{map-at}
 use Rattle.words.specs.Word.{splice}
-use Rattle.ring.specs.Ring.{wadd, slotPlace, slotAt, slotsFrom, withReplies}
-use Rattle.ring.proofs.Ring.{slots-length, slots-same, slots-split, slots-snoc, slot-wrap, place-wrap, replies-length, replies-slot, replies-more, replies-append}
+use Rattle.ring.specs.Ring.{wrap, wadd, slotPlace, slotAt, slotsFrom, withReplies}
+use Rattle.ring.proofs.Ring.{slots-length, slots-at, slots-same, slots-split, slots-snoc, replies-length, replies-slot, replies-append}
+use Rattle.ring.proofs.Replied.{reply-next}
 use Rattle.netif.specs.Slot.{Slot}
 use Rattle.transmit.specs.Judge.{dataReply, extraReply, repliesOf}
 use Rattle.transmit.specs.Take.{repliesTo}
@@ -36,28 +39,26 @@ module _ (f : Slot → List ℕ) (short : (s : Slot) → length (f s) ≤ 12) (p
   by-slot k j a b =
       replies-slot 12 256 (omega arith) (map f (slotsFrom 12 256 page n k)) page n (omega arith) (short-map f short (slotsFrom 12 256 page n k)) j (omega (arith, run-length k)) b
 
-  by-next : (k : ℕ) → splice (repliedBy f page n k) (slotPlace 12 256 (n + k)) (f (slotAt 12 256 page (n + k))) ≡ repliedBy f page n (k + 1)
-  unfolding repliedBy
-  by-next k =
-      ap (λ (x : ℕ). splice (withReplies 12 256 page n (map f (slotsFrom 12 256 page n k))) (slotPlace 12 256 (n + x)) (f (slotAt 12 256 page (n + k)))) (sym (run-length k))
-      ∙ sym (replies-more 12 256 (map f (slotsFrom 12 256 page n k)) page n (f (slotAt 12 256 page (n + k))))
-      ∙ ap (withReplies 12 256 page n) (sym (map-append f (slotsFrom 12 256 page n k) (slotAt 12 256 page (n + k) ∷ [])) ∙ sym (ap (map f) (slots-snoc 12 256 page k n)))
+  by-parts : (k : ℕ) → take k (map f (slotsFrom 12 256 page n (k + 1))) ≡ map f (slotsFrom 12 256 page n k)
+  by-parts k =
+      ap (λ (l : List Slot). take k (map f l)) (slots-snoc 12 256 page k n) ∙ ap (take k) (map-append f (slotsFrom 12 256 page n k) (slotAt 12 256 page (n + k) ∷ []))
+      ∙ take-at (map f (slotsFrom 12 256 page n k)) (f (slotAt 12 256 page (n + k)) ∷ []) k (run-length k)
 
 -- one more reply, at a counter that wraps
 module _ (f : Slot → List ℕ) (short : (s : Slot) → length (f s) ≤ 12) (page : List ℕ) (size : length page ≡ 4096) (first from i m : ℕ) (here : m ≡ wadd first (from + i)) where
-  wrapped-place : slotPlace 12 256 m ≡ slotPlace 12 256 (first + from + i)
-  unfolding wadd
-  wrapped-place = ap (slotPlace 12 256) here ∙ place-wrap 12 256 (first + (from + i)) refl ∙ ap (slotPlace 12 256) (omega arith)
-
-  wrapped-slot : (p : List ℕ) → slotAt 12 256 p m ≡ slotAt 12 256 p (first + from + i)
-  unfolding wadd
-  wrapped-slot p = ap (slotAt 12 256 p) here ∙ slot-wrap 12 256 p (first + (from + i)) refl ∙ ap (slotAt 12 256 p) (omega arith)
-
   pub by-more : i < 256 → (now : List ℕ) → now ≡ repliedBy f page (first + from) i → splice now (slotPlace 12 256 m) (f (slotAt 12 256 now m)) ≡ repliedBy f page (first + from) (i + 1)
+  unfolding repliedBy wadd
   by-more k now inv =
-      let s : slotAt 12 256 now m ≡ slotAt 12 256 page (first + from + i)
-      = wrapped-slot now ∙ ap (λ (p : List ℕ). slotAt 12 256 p (first + from + i)) inv ∙ by-slot f short page size (first + from) i (first + from + i) (omega arith) (omega arith) in
-      rw (wrapped-place, s, inv) (by-next f short page size (first + from) i)
+      let rs : List (List ℕ) = map f (slotsFrom 12 256 page (first + from) (i + 1)) in
+      let many : length (map f (slotsFrom 12 256 page (first + from) (i + 1))) ≡ i + 1 = run-length f short page size (first + from) (i + 1) in
+      let slots : length (slotsFrom 12 256 page (first + from) (i + 1)) ≡ i + 1 = slots-length 12 256 page (i + 1) (first + from) in
+      let counter : m ≡ wadd (first + from) i = here ∙ ap (λ (x : ℕ). x % wrap) (sym (add-assoc first from i)) in
+      reply-next 12 256 (omega arith) refl page (omega arith) (first + from) rs (short-map f short (slotsFrom 12 256 page (first + from) (i + 1))) (omega arith)
+      f m i now (splice now (slotPlace 12 256 m) (f (slotAt 12 256 now m))) (omega arith) counter
+      (map-at f (slotsFrom 12 256 page (first + from) (i + 1)) i [] [] (omega arith) ∙ ap f (slots-at 12 256 page (i + 1) (first + from) i (omega arith)))
+      (inv ∙ ap (withReplies 12 256 page (first + from)) (sym (by-parts f short page size (first + from) i)))
+      refl
+      ∙ ap (withReplies 12 256 page (first + from)) (take-all (i + 1) rs (omega arith))
 
 -- ---- the three runs
 

@@ -8,10 +8,11 @@ use native.Mathlib.Omega.{arith}
 use lib.ListN.{length, take, drop, getD, set, length-take, length-append, length-map}
 use lib.Seq.{getD-take, take-at, length-take-le}
 use borrow.Author.Tests.{not-false, lt-ltb, le-ltb}
-use Rattle.words.specs.Word.{splice, u32Bytes, bit}
-use Rattle.words.proofs.Word.{splice-after, u32-same}
-use Rattle.ring.specs.Ring.{wadd, wsub, notify, rspEvent, posted, withRspProd, slotAt, slotsFrom}
+use Rattle.words.specs.Word.{splice, bit}
+use Rattle.words.proofs.Lists.{map-at}
+use Rattle.ring.specs.Ring.{wadd, notify, slotAt, slotsFrom}
 use Rattle.ring.proofs.Ring.{slots-length, slots-take}
+use Rattle.ring.proofs.Replied.{notify-replied, notify-published}
 use Rattle.grant.specs.Grant.{inRange, fitTransmit, pagePart}
 use Rattle.grant.proofs.Grant.{fit-page, range-page}
 use Rattle.netif.specs.Slot.{Slot, gref, offset, size, okay, error}
@@ -30,27 +31,22 @@ use Rattle.netif.specs.declared.Verdict.the-variants.{Good, Bad}
 use Rattle.netif.specs.Verdict.{_orElse_, test}
 use Rattle.netif.proofs.Within.{within-datas}
 use Rattle.netif.proofs.Grammar.{packet-length, divide-whole}
-use Rattle.transmit.specs.Judge.{totalOf, ownPart, parts, judgeSlot, judgeLater, judge, partOf, laterParts, frameOf}
+use Rattle.transmit.specs.Judge.{totalOf, ownPart, parts, judgeSlot, judgeLater, judge, partOf, laterParts, frameOf, repliesOf}
 use Rattle.transmit.specs.Take.{repliesTo, repliedPage, refusal, spoiled, doneReport, handedOver, takePacket}
 use Rattle.transmit.specs.Plan.{joined, InWindow, datasOf, slotPage}
 use Rattle.transmit.specs.Code.{packetAt, Ready, HoldsParts, ConsumedAs, Gives}
 use Rattle.transmit.specs.declared.Consumed.{Consumed}
 use Rattle.transmit.proofs.Judge.{orElse-good, test-good, good-parts}
-use Rattle.transmit.proofs.Cases.{to-length, to-header}
-use Rattle.transmit.proofs.Plans.{column-at, total-of, sum-of, blank-of, validated-of, gso-size-of, gso-type-of}
+use Rattle.transmit.proofs.Cases.{to-length, replies-short}
+use Rattle.transmit.proofs.Plans.{total-of, sum-of, blank-of, validated-of, gso-size-of, gso-type-of}
 
 -- ---- notify
 
-event-stays : (page : List ℕ) → length page ≡ 4096 → (c slots e status : ℕ) → rspEvent (repliedPage page c slots e status) ≡ rspEvent page
-unfolding repliedPage withRspProd u32Bytes
-event-stays page size c slots e status =
-    let n : length (repliesTo page c slots e status) ≡ 4096 = to-length page size c slots e status in
-    u32-same (repliedPage page c slots e status) page 12 (λ j a b.
-    splice-after (repliesTo page c slots e status) 8 _ (omega arith) j (omega arith) ∙ to-header page size c slots e status j (omega arith))
-
 pub notify-stays : (page : List ℕ) → length page ≡ 4096 → (c slots e status old new : ℕ) → notify (repliedPage page c slots e status) old new ≡ notify page old new
-unfolding notify
-notify-stays page size c slots e status old new = rw (event-stays page size c slots e status)
+unfolding repliedPage repliesTo
+notify-stays page size c slots e status old new =
+    notify-published (repliesTo page c slots e status) (omega (arith, to-length page size c slots e status)) (wadd c slots) old new
+    ∙ notify-replied 12 256 (omega arith) page (omega arith) c (repliesOf e (slotsFrom 12 256 page c slots) status) (replies-short e (slotsFrom 12 256 page c slots) status) old new
 
 -- ---- what stands at the front
 
@@ -172,7 +168,7 @@ module _ (table window : List ℕ) (e : ℕ) (p : List Slot) (pages offsets size
   unfolding parts
   inside zero k = slot-inside table window 0 (firstOf p) (ownPart e p) (good-parts table window e p good .1)
   inside (suc j) k =
-      rw (column-at (slotPage table) (laterOf e p) j (omega arith), column-at offset (laterOf e p) j (omega arith), column-at size (laterOf e p) j (omega arith))
+      rw (map-at (slotPage table) (laterOf e p) j [] 0 (omega arith), map-at offset (laterOf e p) j [] 0 (omega arith), map-at size (laterOf e p) j [] 0 (omega arith))
       (later-inside table window (laterOf e p) (suc e) (good-parts table window e p good .2) j (omega arith))
 
   pub plan-inside : InWindow window pages offsets sizes n

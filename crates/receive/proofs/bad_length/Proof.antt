@@ -4,15 +4,11 @@ use borrow.Author.Tests.{lt-ltb, le-ltb}
 use Rattle.receive.specs.Put.{badLength}
 use Rattle.receive.proofs.bad_length.Statement.{statement}
 use Rattle.receive.proofs.bad_length.Tie as tie
-use Rattle.receive.proofs.bad_length.Reads as reads
-use Rattle.receive.proofs.bad_length.Lts as lts
 
--- src/lib.rt:31:1
 returns : tie.Need-returns
 unfolding badLength
 returns c = rw (lt-ltb _ 14 (c .if1 .taken))
 
--- src/lib.rt:31:1
 returns-2 : tie.Need-returns-2
 unfolding badLength
 returns-2 c = rw (le-ltb _ 14 (c .if1 .left))

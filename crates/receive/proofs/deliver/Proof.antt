@@ -7,20 +7,10 @@ use Rattle.netif.specs.Report.{reportOf}
 use Rattle.receive.proofs.Calls.{needed-few, needed-cover, delivered}
 use Rattle.receive.proofs.deliver.Statement.{statement}
 use Rattle.receive.proofs.deliver.Tie as tie
-use Rattle.receive.proofs.deliver.Reads as reads
-use Rattle.receive.proofs.deliver.Lts as lts
-use Rattle.receive.proofs.finish.Reads as finish-reads
-use Rattle.receive.proofs.go_on.Reads as go-on-reads
-use Rattle.receive.proofs.reply_pieces.Reads as reply-pieces-reads
-use Rattle.receive.proofs.scatter.Reads as scatter-reads
-use Rattle.receive.proofs.told.Reads as told-reads
-use Rattle.ring.proofs.ahead.Reads as ahead-reads
 
--- src/lib.rt:201:9
 ahead-requires : tie.Need-ahead-requires
 ahead-requires c κs = search needs
 
--- src/lib.rt:202:5
 scatter-requires : tie.Need-scatter-requires
 scatter-requires c κs =
     let a = c .before .before .before .before .before .args in
@@ -28,7 +18,6 @@ scatter-requires c κs =
     let n = length (a .frame .now) in
     (omega arith, omega (arith, needed-few n (p .2)), omega (arith, needed-cover n), p .4)
 
--- src/lib.rt:203:5
 reply-pieces-requires : tie.Need-reply-pieces-requires
 reply-pieces-requires c κs =
     let a = c .before .before .before .before .before .before .before .before .before .args in
@@ -36,31 +25,24 @@ reply-pieces-requires c κs =
     let n = length (a .frame .now) in
     (omega arith, omega (arith, needed-few n (p .2)), omega (arith, needed-cover n))
 
--- src/lib.rt:204:9
 finish-requires : tie.Need-finish-requires
 finish-requires c κs = search needs
 
--- src/lib.rt:208:16
 cast-t18 : tie.Need-cast-t18
 cast-t18 c = search needs
 
--- src/lib.rt:214:33
 go-on-requires : tie.Need-go-on-requires
 go-on-requires c κs = search needs
 
--- src/lib.rt:214:5
 told-requires : tie.Need-told-requires
 told-requires c κs = search needs
 
--- src/lib.rt:190:1
 same-length : tie.Need-same-length
 same-length c = search needs
 
--- src/lib.rt:190:1
 same-length-2 : tie.Need-same-length-2
 same-length-2 c = search needs
 
--- src/lib.rt:190:1
 returns : tie.Need-returns
 returns c =
     let a = c .before .before .before .before .before .before .before .before .before .before .before .before .before .before .before .before .before .before .args in

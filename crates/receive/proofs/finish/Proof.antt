@@ -4,27 +4,19 @@ use borrow.Author.Needs.{needs}
 use mathlib.Core.Path.{ap, _∙_}
 use native.Mathlib.Omega.{arith}
 use Rattle.ring.specs.Ring.{notify}
-use Rattle.receive.proofs.Replied.{notify-published}
+use Rattle.ring.proofs.Replied.{notify-published}
 use Rattle.receive.proofs.finish.Statement.{statement}
 use Rattle.receive.proofs.finish.Tie as tie
-use Rattle.receive.proofs.finish.Reads as reads
-use Rattle.receive.proofs.finish.Lts as lts
-use Rattle.ring.proofs.notify.Reads as notify-reads
-use Rattle.ring.proofs.publish.Reads as publish-reads
 
--- src/lib.rt:141:5
 publish-requires : tie.Need-publish-requires
 publish-requires c κs = search needs
 
--- src/lib.rt:142:5
 notify-requires : tie.Need-notify-requires
 notify-requires c κs = search needs
 
--- src/lib.rt:137:1
 same-length : tie.Need-same-length
 same-length c = search needs
 
--- src/lib.rt:137:1
 returns : tie.Need-returns
 returns c =
     let a = c .before .before .before .before .before .before .before .args in

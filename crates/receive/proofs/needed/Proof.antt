@@ -3,21 +3,19 @@ use borrow.Author.Needs.{needs}
 use Rattle.receive.specs.Put.{needed}
 use Rattle.receive.proofs.needed.Statement.{statement}
 use Rattle.receive.proofs.needed.Tie as tie
-use Rattle.receive.proofs.needed.Reads as reads
-use Rattle.receive.proofs.needed.Lts as lts
 
--- src/lib.rt:42:7
+sub-result : tie.Need-sub-result
+sub-result c = search needs
+
 add-result : tie.Need-add-result
 add-result c = search needs
 
--- src/lib.rt:42:5
 cast-result : tie.Need-cast-result
 cast-result c = search needs
 
--- src/lib.rt:38:1
 returns : tie.Need-returns
 unfolding needed
 returns c = search needs
 
 pub needed-spec : {M : Type 1} → statement M
-needed-spec = tie.close (tie.spec add-result cast-result returns)
+needed-spec = tie.close (tie.spec sub-result add-result cast-result returns)

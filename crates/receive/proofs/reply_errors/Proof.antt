@@ -10,10 +10,6 @@ use Rattle.receive.specs.Put.{requestsFrom, errorReplies}
 use Rattle.receive.proofs.Pieces.{errors-next, errors-last}
 use Rattle.receive.proofs.reply_errors.Statement.{statement}
 use Rattle.receive.proofs.reply_errors.Tie as tie
-use Rattle.receive.proofs.reply_errors.Reads as reads
-use Rattle.receive.proofs.reply_errors.Lts as lts
-use Rattle.receive.proofs.reply.Reads as reply-reads
-use Rattle.ring.proofs.ahead.Reads as ahead-reads
 
 abbrev Inv-loop : tie.InvT-loop
 Inv-loop ring₀ first count i₀ ring i =
@@ -22,27 +18,21 @@ Inv-loop ring₀ first count i₀ ring i =
 abbrev μ-loop : tie.MeasureT-loop
 μ-loop ring₀ first count i₀ ring i = count - i
 
--- src/lib.rt:130:5
 loop-holds : tie.Need-loop-holds Inv-loop μ-loop
 loop-holds c = (omega arith, omega arith, refl)
 
--- src/lib.rt:131:21
 ahead-requires : tie.Need-ahead-requires Inv-loop μ-loop
 ahead-requires c κs = search needs
 
--- src/lib.rt:131:9
 reply-requires : tie.Need-reply-requires Inv-loop μ-loop
 reply-requires c κs = search needs
 
--- src/lib.rt:132:9
 add-i : tie.Need-add-i Inv-loop μ-loop
 add-i c = search needs
 
--- src/lib.rt:130:5
 loop-less : tie.Need-loop-less Inv-loop μ-loop
 loop-less c = search needs
 
--- src/lib.rt:130:5
 loop-again : tie.Need-loop-again Inv-loop μ-loop
 loop-again c =
     let a = c .before .before .before .before .before .before .before .before .args in
@@ -50,11 +40,9 @@ loop-again c =
     let n = c .before .before .before .ahead in
     (omega arith, omega arith, errors-next (a .ring .now) (omega arith) (a .first) (a .count) (omega arith) (n .result) (l .i) (l .ring) _ (omega arith) (n .ensures) (l .inv .2) (c .before .before .reply .ensures))
 
--- src/lib.rt:125:1
 same-length : tie.Need-same-length Inv-loop μ-loop
 same-length c = search needs
 
--- src/lib.rt:125:1
 returns : tie.Need-returns Inv-loop μ-loop
 returns c =
     let a = c .before .before .before .args in

@@ -10,12 +10,6 @@ use Rattle.receive.specs.Put.{requestsFrom, pieceReplies}
 use Rattle.receive.proofs.Pieces.{pieces-next, pieces-last}
 use Rattle.receive.proofs.reply_pieces.Statement.{statement}
 use Rattle.receive.proofs.reply_pieces.Tie as tie
-use Rattle.receive.proofs.reply_pieces.Reads as reads
-use Rattle.receive.proofs.reply_pieces.Lts as lts
-use Rattle.receive.proofs.piece_of.Reads as piece-of-reads
-use Rattle.receive.proofs.reply.Reads as reply-reads
-use Rattle.receive.proofs.reply_flags.Reads as reply-flags-reads
-use Rattle.ring.proofs.ahead.Reads as ahead-reads
 
 abbrev Inv-loop : tie.InvT-loop
 Inv-loop ring₀ first count frame i₀ ring i =
@@ -24,47 +18,36 @@ Inv-loop ring₀ first count frame i₀ ring i =
 abbrev μ-loop : tie.MeasureT-loop
 μ-loop ring₀ first count frame i₀ ring i = count - i
 
--- src/lib.rt:117:5
 loop-holds : tie.Need-loop-holds Inv-loop μ-loop
 loop-holds c = (omega arith, omega arith, refl)
 
--- src/lib.rt:118:44
 cast-piece-of : tie.Need-cast-piece-of Inv-loop μ-loop
 cast-piece-of c = search needs
 
--- src/lib.rt:118:22
 piece-of-requires : tie.Need-piece-of-requires Inv-loop μ-loop
 piece-of-requires c κs = search needs
 
--- src/lib.rt:118:22
 cast-status : tie.Need-cast-status Inv-loop μ-loop
 cast-status c = search needs
 
--- src/lib.rt:119:21
 ahead-requires : tie.Need-ahead-requires Inv-loop μ-loop
 ahead-requires c κs = search needs
 
--- src/lib.rt:119:56
 add-reply-flags : tie.Need-add-reply-flags Inv-loop μ-loop
 add-reply-flags c = search needs
 
--- src/lib.rt:119:44
 reply-flags-requires : tie.Need-reply-flags-requires Inv-loop μ-loop
 reply-flags-requires c κs = search needs
 
--- src/lib.rt:119:9
 reply-requires : tie.Need-reply-requires Inv-loop μ-loop
 reply-requires c κs = search needs
 
--- src/lib.rt:120:9
 add-i : tie.Need-add-i Inv-loop μ-loop
 add-i c = search needs
 
--- src/lib.rt:117:5
 loop-less : tie.Need-loop-less Inv-loop μ-loop
 loop-less c = search needs
 
--- src/lib.rt:117:5
 loop-again : tie.Need-loop-again Inv-loop μ-loop
 loop-again c =
     let a = c .before .before .before .before .before .before .before .before .before .before .before .args in
@@ -77,11 +60,9 @@ loop-again c =
       pieces-next (a .ring .now) (omega arith) (a .first) (a .count) (omega arith) (a .frame .now) (n .result) (l .i) (flags .result) (status .result) (l .ring) _ (omega arith) (n .ensures) (flags .ensures) (status .ensures) (l .inv .2) (c .before .before .reply .ensures),
     )
 
--- src/lib.rt:112:1
 same-length : tie.Need-same-length Inv-loop μ-loop
 same-length c = search needs
 
--- src/lib.rt:112:1
 returns : tie.Need-returns Inv-loop μ-loop
 returns c =
     let a = c .before .before .before .before .args in

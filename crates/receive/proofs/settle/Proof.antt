@@ -6,35 +6,25 @@ use lib.ListN.{length}
 use Rattle.receive.proofs.Calls.{needed-few, good-pages, settled-bad, settled-good}
 use Rattle.receive.proofs.settle.Statement.{statement}
 use Rattle.receive.proofs.settle.Tie as tie
-use Rattle.receive.proofs.settle.Reads as reads
-use Rattle.receive.proofs.settle.Lts as lts
-use Rattle.receive.proofs.deliver.Reads as deliver-reads
-use Rattle.receive.proofs.judge.Reads as judge-reads
-use Rattle.receive.proofs.refuse.Reads as refuse-reads
 
--- src/lib.rt:230:11
 judge-requires : tie.Need-judge-requires
 judge-requires c κs =
     let a = c .before .before .before .before .before .before .before .args in
     let p = c .before .before .before .before .before .before .before .pre in
     (omega arith, omega (arith, needed-few (length (a .frame .now)) (p .1)), refl)
 
--- src/lib.rt:231:24
 enum-known-cause : tie.Need-enum-known-cause
 enum-known-cause c = search needs
 
--- src/lib.rt:231:42
 refuse-requires : tie.Need-refuse-requires
 refuse-requires c κs =
     let a = c .before .before .before .before .before .before .before .before .before .before .before .before .args in
     let p = c .before .before .before .before .before .before .before .before .before .before .before .before .pre in
     (omega arith, omega (arith, needed-few (length (a .frame .now)) (p .1)))
 
--- src/lib.rt:232:34
 enum-told : tie.Need-enum-told
 enum-told c = search needs
 
--- src/lib.rt:232:26
 deliver-requires : tie.Need-deliver-requires
 deliver-requires c κs =
     let a = c .before .before .before .before .before .before .before .before .before .before .before .before .before .args in
@@ -42,30 +32,24 @@ deliver-requires c κs =
     let j = c .before .before .before .before .before .judge in
     (omega arith, j .ensures .sized, p .1, p .2, good-pages (a .grants .now) (a .window .now) (a .ring .now) (a .old) (a .count) _ (j .result) (j .ensures) (c .before .before .before .enum-told .given .1))
 
--- src/lib.rt:218:1
 same-length : tie.Need-same-length
 same-length c = search needs
 
--- src/lib.rt:218:1
 same-length-2 : tie.Need-same-length-2
 same-length-2 c = search needs
 
--- src/lib.rt:218:1
 returns : tie.Need-returns
 returns c =
     let a = c .before .before .before .before .before .before .before .before .before .before .before .before .before .before .before .args in
     let j = c .before .before .before .before .before .before .before .judge in
     settled-bad (a .grants .now) (a .window .now) (a .ring .now) (a .old) (a .count) _ (j .result) (j .ensures) (a .frame .now) _ _ _ _ _ (c .before .before .before .before .before .cause .given .1) (c .before .before .refuse .ensures (a .window .now))
 
--- src/lib.rt:218:1
 same-length-3 : tie.Need-same-length-3
 same-length-3 c = search needs
 
--- src/lib.rt:218:1
 same-length-4 : tie.Need-same-length-4
 same-length-4 c = search needs
 
--- src/lib.rt:218:1
 returns-2 : tie.Need-returns-2
 returns-2 c =
     let a = c .before .before .before .before .before .before .before .before .before .before .before .before .before .before .before .before .before .before .args in

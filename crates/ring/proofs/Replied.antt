@@ -1,5 +1,5 @@
--- Laws of ring pages that are not of this call alone, over the slot's width and the number of slots: replies one by one, the
--- requests that are left meanwhile, and what replies leave of the guest's wish for an event.
+-- Replies one by one, over the slot's width and the number of slots, as a loop writes them: the slots that are left meanwhile, and
+-- what replies leave of the guest's wish for an event.
 use mathlib.Core.Path.{_≡_, refl, sym, ap, _∙_}
 use mathlib.Core.List.{List, [], _∷_, _++_}
 use Prim.Native.Nat.{ℕ, zero, suc, _+_, _-_, _*_, _%_, _≤_, _<_}
