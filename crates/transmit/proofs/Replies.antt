@@ -1,23 +1,29 @@
 -- A packet's replies as the code writes them: slot after slot in three runs, which together are the definition's; and what stands
 -- in each slot afterwards.
 use mathlib.Core.Path.{_≡_, refl, sym, ap, _∙_}
+use mathlib.Core.Logic.{⊎-elim}
 use mathlib.Core.List.{List, [], _∷_, _++_, map, map-append}
-use Prim.Native.Nat.{ℕ, suc, _+_, _%_, _≤_, _<_}
+use mathlib.Core.Bool.{Bool, not, cond, _&&_}
+use Prim.Native.Nat.{ℕ, zero, suc, _+_, _-_, _%_, _≤_, _<_}
 use native.Mathlib.Nat.{add-assoc}
 use native.Mathlib.Omega.{arith}
 use native.Mathlib.Numerals.{add-one}
-use lib.ListN.{length, take, drop, length-map}
-use lib.Seq.{take-at, drop-at, take-all}
+use lib.ListN.{length, take, drop, getD, length-take, length-drop, length-map, List·getD-append}
+use lib.Dec.{eqb, leb}
+use borrow.Author.Tests.{ne-eqb, le-leb, lt-leb}
+use lib.Seq.{take-at, drop-at, take-all, getD-drop, getD-append-add}
+use Rattle.words.proofs.Word.{lt-or-ge}
 use Rattle.words.proofs.Lists.{map-at}
 use Rattle.words.specs.Word.{splice}
 use Rattle.ring.specs.Ring.{wrap, wadd, slotPlace, slotAt, slotsFrom, withReplies}
-use Rattle.ring.proofs.Ring.{slots-length, slots-at, slots-same, slots-split, slots-snoc, replies-length, replies-slot, replies-append}
+use Rattle.ring.proofs.Ring.{slots-length, slots-at, slots-same, slots-split, slots-snoc, replies-length, replies-slot, replies-here, replies-append}
 use Rattle.ring.proofs.Replied.{reply-next}
 use Rattle.netif.specs.Slot.{Slot}
+use Rattle.netif.specs.Packet.{extrasOf, laterOf}
 use Rattle.transmit.specs.Judge.{dataReply, extraReply, repliesOf}
-use Rattle.transmit.specs.Take.{repliesTo}
+use Rattle.transmit.specs.Take.{repliesTo, repliedPage}
 use Rattle.transmit.specs.Code.{repliedBy}
-use Rattle.transmit.proofs.Cases.{short-map, data-short, extra-short}
+use Rattle.transmit.proofs.Cases.{short-map, data-short, extra-short, replies-short, replies-count, to-length, producer-slot}
 
 -- ---- a run of replies, each made by f of its slot
 
@@ -110,3 +116,54 @@ module _ (page : List ℕ) (size : length page ≡ 4096) (c e k status : ℕ) (f
       ∙ ap (λ (x : ℕ). withReplies 12 256 (withReplies 12 256 page1 (suc c) ex) x la) (omega arith)
       ∙ sym (replies-append 12 256 ex la page1 (suc c))
       ∙ ap (withReplies 12 256 page c) (sym all-replies)
+
+-- ---- the page afterwards, slot by slot
+
+-- whether place i of a packet with e extras is an extra's
+abbrev pub extraPlace : ℕ → ℕ → Bool
+extraPlace e i = not (eqb i 0) && leb i e
+
+-- the reply to the slot s at place i
+abbrev pub replyAt : (e i status : ℕ) → Slot → List ℕ
+replyAt e i status s = cond (extraPlace e i) (extraReply s) (dataReply status s)
+
+replies-at : (e : ℕ) (p : List Slot) (status i : ℕ) → suc e ≤ length p → i < length p → getD (repliesOf e p status) i [] ≡ replyAt e i status (getD p i [])
+unfolding repliesOf extraReply
+replies-at e p status zero h k = refl
+replies-at e p status (suc j) h k = ⊎-elim extra later (lt-or-ge j e)
+  where
+    ex : List (List ℕ)
+    ex = map extraReply (extrasOf e p)
+
+    la : List (List ℕ)
+    la = map (dataReply status) (laterOf e p)
+
+    many : length ex ≡ e
+    many = length-map (extrasOf e p) extraReply ∙ simp (length-take, length-drop) (omega arith)
+
+    extra : j < e → getD (ex ++ la) j [] ≡ replyAt e (suc j) status (getD p (suc j) [])
+    extra g =
+        rw (ne-eqb (suc j) 0 (omega arith), le-leb (suc j) e g)
+        (List·getD-append ex la [] j (omega (arith, many)) ∙ map-at extraReply (extrasOf e p) j [] [] (simp (length-take, length-drop) (omega arith)))
+
+    later : e ≤ j → getD (ex ++ la) j [] ≡ replyAt e (suc j) status (getD p (suc j) [])
+    later g =
+        let z : j ≡ length ex + (j - e) = omega (arith, many) in
+        let y : suc e + (j - e) ≡ suc j = omega arith in
+        rw (ne-eqb (suc j) 0 (omega arith), lt-leb (suc j) e (omega arith))
+        (ap (λ (n : ℕ). getD (ex ++ la) n []) z
+        ∙ getD-append-add ex la (j - e) []
+        ∙ map-at (dataReply status) (laterOf e p) (j - e) [] [] (simp length-drop (omega arith))
+        ∙ ap (dataReply status) (getD-drop (suc e) p (j - e) [] ∙ ap (λ (n : ℕ). getD p n []) y))
+
+-- each slot replied to has its id, or 0, and the status, or null, in its first four bytes, and its others stay
+pub replied-at : (page : List ℕ) → length page ≡ 4096 → (c slots e status : ℕ) → e < slots → slots ≤ 256 → (i : ℕ) → i < slots
+    → slotAt 12 256 (repliedPage page c slots e status) (c + i) ≡ splice (slotAt 12 256 page (c + i)) 0 (replyAt e i status (slotAt 12 256 page (c + i)))
+unfolding repliedPage repliesTo
+replied-at page size c slots e status some few i h =
+    let n : length (slotsFrom 12 256 page c slots) ≡ slots = slots-length 12 256 page slots c in
+    let m : length (repliesOf e (slotsFrom 12 256 page c slots) status) ≡ slots = replies-count e (slotsFrom 12 256 page c slots) status (omega arith) ∙ n in
+    producer-slot (repliesTo page c slots e status) (to-length page size c slots e status) (wadd c slots) (c + i)
+    ∙ replies-here 12 256 (omega arith) (repliesOf e (slotsFrom 12 256 page c slots) status) page c (omega arith) (replies-short e (slotsFrom 12 256 page c slots) status) (omega arith) i (omega arith)
+    ∙ ap (splice (slotAt 12 256 page (c + i)) 0)
+    (replies-at e (slotsFrom 12 256 page c slots) status i (omega arith) (omega arith) ∙ ap (replyAt e i status) (slots-at 12 256 page slots c i h))
