@@ -11,7 +11,8 @@ include c.mk
 SECONDS ?= 600
 
 # Proves what changed since the last time, and compiles.
-target/staticlib/libtollmeander.a: FORCE
+SOURCES := crates.txt $(shell find crates \( -name '*.rt' -o -name '*.antt' \) 2>/dev/null)
+target/staticlib/libtollmeander.a: $(SOURCES)
 	rt staticlib tollmeander
 
 test:

@@ -139,7 +139,12 @@ fn read_later(
     announced: bool,
     sizes: &mut [u16; 18],
 ) -> Later
-    requires { ⌜ (length (now page) ≡ pageSize) × (posted ≤ 256) × (extras + 1 ≤ posted) × (within 1 extras ≡ true) × (length (now sizes) ≡ 18) ⌝ }
+    requires { ⌜
+        (length (now page) ≡ pageSize)
+        × (posted ≤ 256)
+        × (extras + 1 ≤ posted)
+        × (within 1 extras ≡ true)
+        × (length (now sizes) ≡ 18) ⌝ }
     ensures { λ r. ⌜ LaterRead (now (page .entry)) first posted extras announced (now (sizes .entry)) (now (sizes .exit)) r ⌝ }
 {
     let mut count: u32 = 0;
@@ -191,8 +196,14 @@ fn read_rest(
     more: bool,
     sizes: &mut [u16; 18],
 ) -> Front
-    requires { ⌜ (length (now page) ≡ pageSize) × (posted ≤ 256) × (length (now sizes) ≡ 18) × AfterExtras (now page) first posted head more extras ⌝ }
-    ensures { λ r. ⌜ FrontRead (slotsFrom slotWidth slotCount (now (page .entry)) first posted) (now (sizes .entry)) (now (sizes .exit)) r ⌝ }
+    requires { ⌜
+        (length (now page) ≡ pageSize)
+        × (posted ≤ 256)
+        × (length (now sizes) ≡ 18)
+        × AfterExtras (now page) first posted head more extras ⌝ }
+    ensures { λ r. ⌜
+        FrontRead (slotsFrom slotWidth slotCount (now (page .entry)) first posted) (now (sizes .entry))
+        (now (sizes .exit)) r ⌝ }
 {
     let later = read_later(page, first, posted, extras.count, more, sizes);
     let shape = later.shape;
@@ -214,7 +225,9 @@ fn read_rest(
 // sizes, from the place 1 on.
 pub fn read(page: &[u8], first: u32, posted: u32, sizes: &mut [u16; 18]) -> Front
     requires { ⌜ (length (now page) ≡ pageSize) × (1 ≤ posted) × (posted ≤ 256) × (length (now sizes) ≡ 18) ⌝ }
-    ensures { λ r. ⌜ FrontRead (slotsFrom slotWidth slotCount (now (page .entry)) first posted) (now (sizes .entry)) (now (sizes .exit)) r ⌝ }
+    ensures { λ r. ⌜
+        FrontRead (slotsFrom slotWidth slotCount (now (page .entry)) first posted) (now (sizes .entry))
+        (now (sizes .exit)) r ⌝ }
 {
     let head = DataSlot::at(page, first);
     let more = head.more_data();

@@ -106,7 +106,9 @@ fn judge(
     pages: &mut [u32; MOST],
 ) -> Verdict
     requires { ⌜ (length (now ring) ≡ pageSize) × (count ≤ 16) × (length (now pages) ≡ 16) ⌝ }
-    ensures { λ r. ⌜ Judged (now (grants .entry)) (now (window .entry)) (requestsFrom (now (ring .entry)) first count) (now (pages .exit)) r ⌝ }
+    ensures { λ r. ⌜
+        Judged (now (grants .entry)) (now (window .entry)) (requestsFrom (now (ring .entry)) first count)
+        (now (pages .exit)) r ⌝ }
 {
     let mut i: u32 = 0;
     while i < count {
@@ -125,7 +127,11 @@ fn judge(
 
 // Writes the pieces of a frame to the pages of the table, in order.
 fn scatter(window: &mut [u8], pages: &[u32; MOST], count: usize, frame: &[u8])
-    requires { ⌜ (length (now pages) ≡ 16) × (count ≤ 16) × (pieceSize * count ≤ length (now frame) + 4095) × AllUsable (length (now window)) (take count (now pages)) ⌝ }
+    requires { ⌜
+        (length (now pages) ≡ 16)
+        × (count ≤ 16)
+        × (pieceSize * count ≤ length (now frame) + 4095)
+        × AllUsable (length (now window)) (take count (now pages)) ⌝ }
     ensures { λ _. ⌜ now (window .exit) ≡ scatter (now (window .entry)) (take count (now (pages .entry))) (now (frame .entry)) ⌝ }
 {
     let mut i: usize = 0;
@@ -147,7 +153,9 @@ fn reply_flags(more: bool) -> u16
 // Replies to the request at slot n: its own id, offset 0, flags and status.
 fn reply(ring: &mut [u8], n: u32, flags: u16, status: u16)
     requires { ⌜ length (now ring) ≡ pageSize ⌝ }
-    ensures { λ _. ⌜ now (ring .exit) ≡ splice (now (ring .entry)) (slotPlace requestWidth requestCount n) (receiveReply (requestIdent (slotAt requestWidth requestCount (now (ring .entry)) n)) 0 flags status) ⌝ }
+    ensures { λ _. ⌜
+        now (ring .exit) ≡ splice (now (ring .entry)) (slotPlace requestWidth requestCount n)
+        (receiveReply (requestIdent (slotAt requestWidth requestCount (now (ring .entry)) n)) 0 flags status) ⌝ }
 {
     let at = ring::place(Request::WIDTH, Request::COUNT, n);
     let id = words::u16_at(ring, at);
@@ -158,7 +166,9 @@ fn reply(ring: &mut [u8], n: u32, flags: u16, status: u16)
 // Replies to the requests that got the pieces of a frame.
 fn reply_pieces(ring: &mut [u8], first: u32, count: u32, frame: &[u8])
     requires { ⌜ (length (now ring) ≡ pageSize) × (count ≤ 16) × (pieceSize * count ≤ length (now frame) + 4095) ⌝ }
-    ensures { λ _. ⌜ now (ring .exit) ≡ withReplies requestWidth requestCount (now (ring .entry)) first (pieceReplies (requestsFrom (now (ring .entry)) first count) (now (frame .entry))) ⌝ }
+    ensures { λ _. ⌜
+        now (ring .exit) ≡ withReplies requestWidth requestCount (now (ring .entry)) first
+        (pieceReplies (requestsFrom (now (ring .entry)) first count) (now (frame .entry))) ⌝ }
 {
     let mut i: u32 = 0;
     while i < count {
@@ -176,7 +186,9 @@ fn reply_pieces(ring: &mut [u8], first: u32, count: u32, frame: &[u8])
 // Replies to requests of which one is unfit.
 fn reply_errors(ring: &mut [u8], first: u32, count: u32)
     requires { ⌜ (length (now ring) ≡ pageSize) × (count ≤ 16) ⌝ }
-    ensures { λ _. ⌜ now (ring .exit) ≡ withReplies requestWidth requestCount (now (ring .entry)) first (errorReplies (requestsFrom (now (ring .entry)) first count)) ⌝ }
+    ensures { λ _. ⌜
+        now (ring .exit) ≡ withReplies requestWidth requestCount (now (ring .entry)) first
+        (errorReplies (requestsFrom (now (ring .entry)) first count)) ⌝ }
 {
     let mut i: u32 = 0;
     while i < count {
@@ -197,7 +209,10 @@ fn finish(ring: &mut [u8], old: u32, new: u32) -> bool
 // Consumes requests of which one is unfit: each gets an error. The window is not lent, so it stays.
 fn refuse(ring: &mut [u8], old: u32, count: u32, cause: u32, place: u32) -> Outcome
     requires { ⌜ (length (now ring) ≡ pageSize) × (count ≤ 16) ⌝ }
-    ensures { λ r. ⌜ ((window : List ℕ) → Delivered (refuse old (now (ring .entry)) window (requestsFrom (now (ring .entry)) old count) cause place) r (now (ring .exit)) window) ⌝ }
+    ensures { λ r. ⌜
+        ((window : List ℕ) → Delivered
+        (refuse old (now (ring .entry)) window (requestsFrom (now (ring .entry)) old count) cause place) r
+        (now (ring .exit)) window) ⌝ }
 {
     let new = ring::ahead(old, count);
     reply_errors(ring, old, count);
@@ -221,8 +236,16 @@ fn deliver(
     pages: &[u32; MOST],
     frame: &[u8],
 ) -> Outcome
-    requires { ⌜ (length (now ring) ≡ pageSize) × (length (now pages) ≡ 16) × (length (now frame) ≤ 65535) × (count ≡ needed (length (now frame))) × AllUsable (length (now window)) (take count (now pages)) ⌝ }
-    ensures { λ r. ⌜ Delivered (deliver old (now (ring .entry)) (now (window .entry)) (requestsFrom (now (ring .entry)) old count) (take count (now (pages .entry))) (now (frame .entry))) r (now (ring .exit)) (now (window .exit)) ⌝ }
+    requires { ⌜
+        (length (now ring) ≡ pageSize)
+        × (length (now pages) ≡ 16)
+        × (length (now frame) ≤ 65535)
+        × (count ≡ needed (length (now frame)))
+        × AllUsable (length (now window)) (take count (now pages)) ⌝ }
+    ensures { λ r. ⌜
+        Delivered
+        (deliver old (now (ring .entry)) (now (window .entry)) (requestsFrom (now (ring .entry)) old count) (take count (now (pages .entry))) (now (frame .entry)))
+        r (now (ring .exit)) (now (window .exit)) ⌝ }
 {
     let new = ring::ahead(old, count);
     scatter(window, pages, count as usize, frame);
@@ -250,7 +273,10 @@ fn settle(
     frame: &[u8],
 ) -> Outcome
     requires { ⌜ (length (now ring) ≡ pageSize) × (length (now frame) ≤ 65535) × (count ≡ needed (length (now frame))) ⌝ }
-    ensures { λ r. ⌜ Delivered (settle (now (grants .entry)) old (now (ring .entry)) (now (window .entry)) (requestsFrom (now (ring .entry)) old count) (now (frame .entry))) r (now (ring .exit)) (now (window .exit)) ⌝ }
+    ensures { λ r. ⌜
+        Delivered
+        (settle (now (grants .entry)) old (now (ring .entry)) (now (window .entry)) (requestsFrom (now (ring .entry)) old count) (now (frame .entry)))
+        r (now (ring .exit)) (now (window .exit)) ⌝ }
 {
     let mut pages = [0u32; MOST];
     match judge(grants, window, ring, old, count, &mut pages) {
@@ -261,7 +287,10 @@ fn settle(
 
 // Puts a frame into the pages of the requests at the counter.
 pub fn put(queue: Queue, grants: &[u8], window: &mut [u8], ring: &mut [u8], frame: &[u8]) -> Outcome
-    ensures { λ r. ⌜ Delivered (receivePut (now (grants .entry)) queue (now (ring .entry)) (now (window .entry)) (now (frame .entry))) r (now (ring .exit)) (now (window .exit)) ⌝ }
+    ensures { λ r. ⌜
+        Delivered
+        (receivePut (now (grants .entry)) queue (now (ring .entry)) (now (window .entry)) (now (frame .entry))) r
+        (now (ring .exit)) (now (window .exit)) ⌝ }
 {
     if !ring::is_page(ring) {
         return told(Answer::BadPage, queue);

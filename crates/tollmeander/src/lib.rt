@@ -113,7 +113,10 @@ pub extern "C" fn tollmeander_transmit_take(
     frame: &mut [u8],
     report: &mut [u32; 10],
 ) -> u32
-    ensures { λ r. ⌜ TransmitLeaves (now (grants .entry)) (now (window .entry)) (now (consumed .entry)) (now (halted .entry)) (now (ring .entry)) (now (frame .entry)) r (now (consumed .exit)) (now (halted .exit)) (now (ring .exit)) (now (frame .exit)) (now (report .exit)) ⌝ }
+    ensures { λ r. ⌜
+        TransmitLeaves (now (grants .entry)) (now (window .entry)) (now (consumed .entry)) (now (halted .entry))
+        (now (ring .entry)) (now (frame .entry)) r (now (consumed .exit)) (now (halted .exit)) (now (ring .exit))
+        (now (frame .exit)) (now (report .exit)) ⌝ }
 {
     let mark = *halted;
     let queue = queue_of(*consumed, mark);
@@ -136,7 +139,10 @@ pub extern "C" fn tollmeander_receive_put(
     frame: &[u8],
     report: &mut [u32; 10],
 ) -> u32
-    ensures { λ r. ⌜ ReceiveLeaves (now (grants .entry)) (now (window .entry)) (now (consumed .entry)) (now (halted .entry)) (now (ring .entry)) (now (frame .entry)) r (now (consumed .exit)) (now (halted .exit)) (now (ring .exit)) (now (window .exit)) (now (report .exit)) ⌝ }
+    ensures { λ r. ⌜
+        ReceiveLeaves (now (grants .entry)) (now (window .entry)) (now (consumed .entry)) (now (halted .entry))
+        (now (ring .entry)) (now (frame .entry)) r (now (consumed .exit)) (now (halted .exit)) (now (ring .exit))
+        (now (window .exit)) (now (report .exit)) ⌝ }
 {
     let mark = *halted;
     let queue = queue_of(*consumed, mark);

@@ -9,12 +9,13 @@ use Rattle.netif.specs.Slot.{Slot, slotWidth, slotCount, size, offset}
 use Rattle.netif.specs.Front.{outlineOf}
 use Rattle.netif.specs.Report.{reportOf}
 use Rattle.netif.specs.declared.DataSlot.{DataSlot}
+use Rattle.netif.specs.declared.Queue.{Queue}
 use Rattle.netif.specs.declared.Outcome.{Outcome as Returned}
 use Rattle.netif.specs.declared.divider.Outline.{Outline}
 use Rattle.netif.specs.declared.Verdict.{Verdict}
 use Rattle.netif.specs.declared.Verdict.the-variants.{Good}
-use Rattle.transmit.specs.Judge.{parts, judgeLater}
-use Rattle.transmit.specs.Take.{Outcome, repliedPage}
+use Rattle.transmit.specs.Judge.{parts, judgeLater, judge}
+use Rattle.transmit.specs.Take.{Outcome, repliedPage, takePacket}
 use Rattle.transmit.specs.declared.Consumed.{Consumed}
 use Rattle.transmit.specs.Plan.{datasOf, slotPage}
 
@@ -24,6 +25,10 @@ pub record Gives (o : Outcome) (r : Returned) (ring buffer : List ℕ) : Type 0 
   pub queue : r .queue ≡ o .queue
   pub page : ring ≡ o .page
   pub frame : buffer ≡ o .frame
+
+-- what the call makes of the whole packet p with e extras, by its verdict
+abbrev pub takeWhole : (table window : List ℕ) → Queue → (page frame : List ℕ) (e : ℕ) (p : List Slot) → Outcome
+takeWhole table window q page frame e p = takePacket table window q page frame e p (judge table window e p)
 
 -- slots from counter old on were replied to and published
 pub record ConsumedAs (page : List ℕ) (old slots extras status : ℕ) (after : List ℕ) (r : Consumed) : Type 0 where

@@ -31,8 +31,17 @@ pub fn gather(
     sizes: &[u16; 18],
     frame: &mut [u8],
 )
-    requires { ⌜ (count ≤ 18) × (count ≤ length (now pages)) × (count ≤ length (now offsets)) × (count ≤ length (now sizes)) × InWindow (now window) (now pages) (now offsets) (now sizes) count × (length (joined (now window) (take count (now pages)) (take count (now offsets)) (take count (now sizes))) ≤ length (now frame)) ⌝ }
-    ensures { λ _. ⌜ now (frame .exit) ≡ splice (now (frame .entry)) 0 (joined (now (window .entry)) (take count (now (pages .entry))) (take count (now (offsets .entry))) (take count (now (sizes .entry)))) ⌝ }
+    requires { ⌜
+        (count ≤ 18)
+        × (count ≤ length (now pages))
+        × (count ≤ length (now offsets))
+        × (count ≤ length (now sizes))
+        × InWindow (now window) (now pages) (now offsets) (now sizes) count
+        ×
+        (length (joined (now window) (take count (now pages)) (take count (now offsets)) (take count (now sizes))) ≤ length (now frame)) ⌝ }
+    ensures { λ _. ⌜
+        now (frame .exit) ≡ splice (now (frame .entry)) 0
+        (joined (now (window .entry)) (take count (now (pages .entry))) (take count (now (offsets .entry))) (take count (now (sizes .entry)))) ⌝ }
 {
     let mut i: usize = 0;
     let mut at: usize = 0;

@@ -75,8 +75,16 @@ fn judge_later(
     grants: &[u8],
     window: &[u8],
 ) -> Verdict
-    requires { ⌜ (length (now ring) ≡ pageSize) × (extras ≤ 256) × (later ≤ 17) × SizesOf (now sizes) (laterAt (now ring) first extras later) × (length (now pages) ≡ 18) × (length (now offsets) ≡ 18) ⌝ }
-    ensures { λ r. ⌜ LaterJudged (now (grants .entry)) (now (window .entry)) (now (ring .entry)) first extras later (now (pages .entry)) (now (offsets .entry)) (now (pages .exit)) (now (offsets .exit)) r ⌝ }
+    requires { ⌜
+        (length (now ring) ≡ pageSize)
+        × (extras ≤ 256)
+        × (later ≤ 17)
+        × SizesOf (now sizes) (laterAt (now ring) first extras later)
+        × (length (now pages) ≡ 18)
+        × (length (now offsets) ≡ 18) ⌝ }
+    ensures { λ r. ⌜
+        LaterJudged (now (grants .entry)) (now (window .entry)) (now (ring .entry)) first extras later
+        (now (pages .entry)) (now (offsets .entry)) (now (pages .exit)) (now (offsets .exit)) r ⌝ }
 {
     let mut i: u32 = 0;
     while i < later {
@@ -116,8 +124,16 @@ fn judge_slots(
     grants: &[u8],
     window: &[u8],
 ) -> Verdict
-    requires { ⌜ (length (now ring) ≡ pageSize) × Ready (now ring) first o × HoldsParts (now sizes) (o .extras) (packetAt (now ring) first o) × (length (now pages) ≡ 18) × (length (now offsets) ≡ 18) ⌝ }
-    ensures { λ r. ⌜ Judged (now (grants .entry)) (o .extras) (packetAt (now (ring .entry)) first o) (judgeSlots (now (grants .entry)) (now (window .entry)) (o .extras) (packetAt (now (ring .entry)) first o)) (now (pages .exit)) (now (offsets .exit)) r ⌝ }
+    requires { ⌜
+        (length (now ring) ≡ pageSize)
+        × Ready (now ring) first o
+        × HoldsParts (now sizes) (o .extras) (packetAt (now ring) first o)
+        × (length (now pages) ≡ 18)
+        × (length (now offsets) ≡ 18) ⌝ }
+    ensures { λ r. ⌜
+        Judged (now (grants .entry)) (o .extras) (packetAt (now (ring .entry)) first o)
+        (judgeSlots (now (grants .entry)) (now (window .entry)) (o .extras) (packetAt (now (ring .entry)) first o))
+        (now (pages .exit)) (now (offsets .exit)) r ⌝ }
 {
     let head = o.head;
     match grant::lookup(grants, window, head.gref, head.offset, sizes[0]) {
@@ -153,8 +169,16 @@ pub fn judge(
     grants: &[u8],
     window: &[u8],
 ) -> Verdict
-    requires { ⌜ (length (now ring) ≡ pageSize) × Ready (now ring) first o × HoldsParts (now sizes) (o .extras) (packetAt (now ring) first o) × (length (now pages) ≡ 18) × (length (now offsets) ≡ 18) ⌝ }
-    ensures { λ r. ⌜ Judged (now (grants .entry)) (o .extras) (packetAt (now (ring .entry)) first o) (judge (now (grants .entry)) (now (window .entry)) (o .extras) (packetAt (now (ring .entry)) first o)) (now (pages .exit)) (now (offsets .exit)) r ⌝ }
+    requires { ⌜
+        (length (now ring) ≡ pageSize)
+        × Ready (now ring) first o
+        × HoldsParts (now sizes) (o .extras) (packetAt (now ring) first o)
+        × (length (now pages) ≡ 18)
+        × (length (now offsets) ≡ 18) ⌝ }
+    ensures { λ r. ⌜
+        Judged (now (grants .entry)) (o .extras) (packetAt (now (ring .entry)) first o)
+        (judge (now (grants .entry)) (now (window .entry)) (o .extras) (packetAt (now (ring .entry)) first o))
+        (now (pages .exit)) (now (offsets .exit)) r ⌝ }
 {
     let head = o.head;
     match judge_sizes(head.size, o.later) {

@@ -15,8 +15,8 @@ ghost use Rattle.netif.specs.Slot.{slotWidth, slotCount};
 ghost use Rattle.netif.specs.declared.Verdict.the-variants.{Good};
 ghost use Rattle.transmit.specs.Plan.{slotPage};
 ghost use Rattle.transmit.specs.Judge.{judge, frameOf};
-ghost use Rattle.transmit.specs.Take.{spoiled, handedOver, takePacket, takeFront, transmitTake};
-ghost use Rattle.transmit.specs.Code.{packetAt, Ready, HoldsParts, ConsumedAs, Gives, packetOne, aloneOutline};
+ghost use Rattle.transmit.specs.Take.{spoiled, handedOver, takeFront, transmitTake};
+ghost use Rattle.transmit.specs.Code.{packetAt, Ready, HoldsParts, ConsumedAs, Gives, takeWhole, packetOne, aloneOutline};
 use grant::Source;
 use netif::Answer;
 use netif::DataSlot;
@@ -52,7 +52,10 @@ fn consume(ring: &mut [u8], old: u32, slots: u32, extras: u32, status: u16) -> C
 // A spoiled packet: all its slots consumed and replied to.
 fn refuse(queue: Queue, o: Outline, cause: u32, place: u32, ring: &mut [u8]) -> Outcome
     requires { ⌜ (length (now ring) ≡ pageSize) × Ready (now ring) (queue .consumed) o ⌝ }
-    ensures { λ r. ⌜ ((frame : List ℕ) → Gives (spoiled (queue .consumed) (now (ring .entry)) frame (o .extras) (packetAt (now (ring .entry)) (queue .consumed) o) cause place) r (now (ring .exit)) frame) ⌝ }
+    ensures { λ r. ⌜
+        ((frame : List ℕ) → Gives
+        (spoiled (queue .consumed) (now (ring .entry)) frame (o .extras) (packetAt (now (ring .entry)) (queue .consumed) o) cause place)
+        r (now (ring .exit)) frame) ⌝ }
 {
     let consumed = consume(ring, queue.consumed, o.slots, o.extras, ERROR);
     Outcome {
@@ -72,7 +75,11 @@ fn refuse(queue: Queue, o: Outline, cause: u32, place: u32, ring: &mut [u8]) -> 
 // A good packet whose frame stands in the frame buffer: all its slots consumed and replied to.
 fn accept(queue: Queue, o: Outline, ring: &mut [u8]) -> Outcome
     requires { ⌜ (length (now ring) ≡ pageSize) × Ready (now ring) (queue .consumed) o ⌝ }
-    ensures { λ r. ⌜ ((table window frame : List ℕ) → Gives (handedOver table window (queue .consumed) (now (ring .entry)) frame (o .extras) (packetAt (now (ring .entry)) (queue .consumed) o)) r (now (ring .exit)) (splice frame 0 (frameOf table window (o .extras) (packetAt (now (ring .entry)) (queue .consumed) o)))) ⌝ }
+    ensures { λ r. ⌜
+        ((table window frame : List ℕ) → Gives
+        (handedOver table window (queue .consumed) (now (ring .entry)) frame (o .extras) (packetAt (now (ring .entry)) (queue .consumed) o))
+        r (now (ring .exit))
+        (splice frame 0 (frameOf table window (o .extras) (packetAt (now (ring .entry)) (queue .consumed) o)))) ⌝ }
 {
     let head = o.head;
     let blank = head.checksum_blank();
@@ -105,8 +112,14 @@ fn settle(
     ring: &mut [u8],
     frame: &mut [u8],
 ) -> Outcome
-    requires { ⌜ (length (now ring) ≡ pageSize) × Ready (now ring) (queue .consumed) o × HoldsParts (now sizes) (o .extras) (packetAt (now ring) (queue .consumed) o) ⌝ }
-    ensures { λ r. ⌜ Gives (takePacket (now (grants .entry)) (now (window .entry)) queue (now (ring .entry)) (now (frame .entry)) (o .extras) (packetAt (now (ring .entry)) (queue .consumed) o) (judge (now (grants .entry)) (now (window .entry)) (o .extras) (packetAt (now (ring .entry)) (queue .consumed) o))) r (now (ring .exit)) (now (frame .exit)) ⌝ }
+    requires { ⌜
+        (length (now ring) ≡ pageSize)
+        × Ready (now ring) (queue .consumed) o
+        × HoldsParts (now sizes) (o .extras) (packetAt (now ring) (queue .consumed) o) ⌝ }
+    ensures { λ r. ⌜
+        Gives
+        (takeWhole (now (grants .entry)) (now (window .entry)) queue (now (ring .entry)) (now (frame .entry)) (o .extras) (packetAt (now (ring .entry)) (queue .consumed) o))
+        r (now (ring .exit)) (now (frame .exit)) ⌝ }
 {
     let mut pages = [0u32; 18];
     let mut offsets = [0u16; 18];
@@ -159,8 +172,16 @@ fn accept_alone(
     ring: &mut [u8],
     frame: &mut [u8],
 ) -> Outcome
-    requires { ⌜ (length (now ring) ≡ pageSize) × (head ≡ dataOf (slotAt slotWidth slotCount (now ring) (queue .consumed))) × (4096 * page + 4096 ≤ length (now window)) × (head .offset + head .size ≤ 4096) ⌝ }
-    ensures { λ r. ⌜ ((table : List ℕ) → judge table (now (window .entry)) 0 (packetOne (now (ring .entry)) (queue .consumed)) ≡ Good → page ≡ slotPage table (slotAt slotWidth slotCount (now (ring .entry)) (queue .consumed)) → Gives (takePacket table (now (window .entry)) queue (now (ring .entry)) (now (frame .entry)) 0 (packetOne (now (ring .entry)) (queue .consumed)) (judge table (now (window .entry)) 0 (packetOne (now (ring .entry)) (queue .consumed)))) r (now (ring .exit)) (now (frame .exit))) ⌝ }
+    requires { ⌜
+        (length (now ring) ≡ pageSize)
+        × (head ≡ dataOf (slotAt slotWidth slotCount (now ring) (queue .consumed)))
+        × (4096 * page + 4096 ≤ length (now window))
+        × (head .offset + head .size ≤ 4096) ⌝ }
+    ensures { λ r. ⌜
+        ((table : List ℕ) → judge table (now (window .entry)) 0 (packetOne (now (ring .entry)) (queue .consumed)) ≡
+        Good → page ≡ slotPage table (slotAt slotWidth slotCount (now (ring .entry)) (queue .consumed)) → Gives
+        (takeWhole table (now (window .entry)) queue (now (ring .entry)) (now (frame .entry)) 0 (packetOne (now (ring .entry)) (queue .consumed)))
+        r (now (ring .exit)) (now (frame .exit))) ⌝ }
 {
     if frame.len() < head.size as usize {
         return Outcome {
@@ -181,7 +202,10 @@ fn settle_alone(
     frame: &mut [u8],
 ) -> Outcome
     requires { ⌜ length (now ring) ≡ pageSize ⌝ }
-    ensures { λ r. ⌜ Gives (takePacket (now (grants .entry)) (now (window .entry)) queue (now (ring .entry)) (now (frame .entry)) 0 (packetOne (now (ring .entry)) (queue .consumed)) (judge (now (grants .entry)) (now (window .entry)) 0 (packetOne (now (ring .entry)) (queue .consumed)))) r (now (ring .exit)) (now (frame .exit)) ⌝ }
+    ensures { λ r. ⌜
+        Gives
+        (takeWhole (now (grants .entry)) (now (window .entry)) queue (now (ring .entry)) (now (frame .entry)) 0 (packetOne (now (ring .entry)) (queue .consumed)))
+        r (now (ring .exit)) (now (frame .exit)) ⌝ }
 {
     let head = DataSlot::at(ring, queue.consumed);
     match judging::judge_sizes(head.size, 0) {
@@ -204,7 +228,9 @@ fn take_front(
     frame: &mut [u8],
 ) -> Outcome
     requires { ⌜ (length (now ring) ≡ pageSize) × (count ≡ posted (now ring) (queue .consumed)) × (1 ≤ count) × (count ≤ 256) ⌝ }
-    ensures { λ r. ⌜ Gives (takeFront (now (grants .entry)) (now (window .entry)) queue (now (ring .entry)) (now (frame .entry))) r (now (ring .exit)) (now (frame .exit)) ⌝ }
+    ensures { λ r. ⌜
+        Gives (takeFront (now (grants .entry)) (now (window .entry)) queue (now (ring .entry)) (now (frame .entry))) r
+        (now (ring .exit)) (now (frame .exit)) ⌝ }
 {
     if netif::divider::is_alone(ring, queue.consumed) {
         return settle_alone(queue, grants, window, ring, frame);
@@ -241,7 +267,9 @@ pub fn take(
     ring: &mut [u8],
     frame: &mut [u8],
 ) -> Outcome
-    ensures { λ r. ⌜ Gives (transmitTake (now (grants .entry)) (now (window .entry)) queue (now (ring .entry)) (now (frame .entry))) r (now (ring .exit)) (now (frame .exit)) ⌝ }
+    ensures { λ r. ⌜
+        Gives (transmitTake (now (grants .entry)) (now (window .entry)) queue (now (ring .entry)) (now (frame .entry)))
+        r (now (ring .exit)) (now (frame .exit)) ⌝ }
 {
     if !ring::is_page(ring) {
         return Outcome {

@@ -14,7 +14,9 @@ use netif::Extra;
 // Replies to the data slot at a counter: its own id and a status.
 fn reply_data(ring: &mut [u8], n: u32, status: u16)
     requires { ⌜ length (now ring) ≡ pageSize ⌝ }
-    ensures { λ _. ⌜ now (ring .exit) ≡ splice (now (ring .entry)) (slotPlace slotWidth slotCount n) (dataReply status (slotAt slotWidth slotCount (now (ring .entry)) n)) ⌝ }
+    ensures { λ _. ⌜
+        now (ring .exit) ≡ splice (now (ring .entry)) (slotPlace slotWidth slotCount n)
+        (dataReply status (slotAt slotWidth slotCount (now (ring .entry)) n)) ⌝ }
 {
     let slot = DataSlot::at(ring, n);
     ring::reply(ring, DataSlot::WIDTH, DataSlot::COUNT, n, slot.id, status);
