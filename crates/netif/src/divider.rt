@@ -71,9 +71,9 @@ pub fn is_alone(page: &[u8], first: u32) -> bool
     requires { ⌜ length (now page) ≡ pageSize ⌝ }
     ensures { λ r. ⌜ r ≡ alone (slotAt slotWidth slotCount (now (page .entry)) first) ⌝ }
 {
-    let head = DataSlot::at(page, first);
-    let more = head.more_data();
-    let extra = head.extra_follows();
+    let slot = DataSlot::at(page, first);
+    let more = slot.more_data();
+    let extra = slot.extra_follows();
     if more {
         return false;
     }
