@@ -6,6 +6,7 @@
 # make soak SECONDS=..  the differential test for so long
 .DEFAULT_GOAL := lib
 include c.mk
+include bench.mk
 
 .PHONY: test soak clean
 SECONDS ?= 600

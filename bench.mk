@@ -1,0 +1,57 @@
+# The bench: the library beside plain C.
+#
+#   bench         builds and runs it (BENCH_OPTIONS=--quick for a few seconds)
+#   bench-floor   the same with a second copy of plain C as the library: how far ratios can be trusted
+#   bench-check   the library's differential test over plain C
+
+TOLLMEANDER_LIB ?= target/staticlib/libtollmeander.a
+BUILD ?= build
+# V=1 shows the commands.
+SAY ?= $(if $(V),,@echo "  $@";)
+
+BENCH_WARNINGS := -Wall -Wextra -Wpedantic -Wshadow -Wconversion -Werror
+BENCH_INCLUDES := -Iinclude
+BENCH_FLAGS := -std=c11 -O2 $(BENCH_WARNINGS)
+# The library is compiled for any x86-64, and so is plain C. Nothing is optimised across the two.
+BENCH_PLAIN_FLAGS := -std=c11 -O3 -march=x86-64 -mtune=generic
+BENCH_PLAIN := gcc $(shell gcc -dumpfullversion) $(BENCH_PLAIN_FLAGS)
+
+BENCH_PARTS := scene measure agree rows table bench
+BENCH_OBJECTS := $(addprefix $(BUILD)/bench/,plain.o $(BENCH_PARTS:%=%.o))
+BENCH_HEADERS := $(wildcard bench/*.h) include/tollmeander.h
+# Plain C under the library's names.
+BENCH_YARDSTICK := $(BUILD)/bench/yardstick/libtollmeander.a
+
+.PHONY: bench bench-floor bench-check bench-yardstick FORCE
+
+bench: $(BUILD)/bench/bench
+	@bench/run.sh $< $(BENCH_OPTIONS)
+
+bench-floor: $(BUILD)/bench/bench-floor
+	@bench/run.sh $< $(BENCH_OPTIONS)
+
+bench-check:
+	@bench/check.sh
+
+bench-yardstick: $(BENCH_YARDSTICK)
+
+$(BUILD)/bench/plain.o: bench/plain.c $(BENCH_HEADERS)
+	@mkdir -p $(@D)
+	$(SAY)gcc $(BENCH_PLAIN_FLAGS) $(BENCH_WARNINGS) $(BENCH_INCLUDES) -c $< -o $@
+
+$(BENCH_PARTS:%=$(BUILD)/bench/%.o): $(BUILD)/bench/%.o: bench/%.c $(BENCH_HEADERS)
+	@mkdir -p $(@D)
+	$(SAY)gcc $(BENCH_FLAGS) $(BENCH_INCLUDES) -DBENCH_PLAIN='"$(BENCH_PLAIN)"' -c $< -o $@
+
+$(BENCH_YARDSTICK): $(BUILD)/bench/plain.o
+	@mkdir -p $(@D)
+	$(SAY)objcopy --redefine-sym plain_transmit_take=tollmeander_transmit_take \
+	    --redefine-sym plain_receive_put=tollmeander_receive_put $< $(@D)/plain.o && \
+	    rm -f $@ && ar rcs $@ $(@D)/plain.o
+
+# Linked each time, as TOLLMEANDER_LIB may be another. memcpy is found at the start, not at the first call.
+$(BUILD)/bench/bench: $(BENCH_OBJECTS) $(TOLLMEANDER_LIB) FORCE
+	$(SAY)gcc -Wl,-z,now $(filter-out FORCE,$^) -o $@
+
+$(BUILD)/bench/bench-floor: $(BENCH_OBJECTS) $(BENCH_YARDSTICK)
+	$(SAY)gcc -Wl,-z,now $^ -o $@

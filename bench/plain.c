@@ -1,0 +1,536 @@
+/*
+ * The two calls in plain C, with memcpy, as one would write them by hand.
+ *
+ * A slot is read once, into a value, and that value decides: a guest that
+ * rewrites the page meanwhile gets no access that it is not granted. Nothing is
+ * written before everything is tested. A packet of one slot and a frame of one
+ * page, which most are, take a path without loops and tables.
+ */
+#include "plain.h"
+
+#include <stdbool.h>
+#include <string.h>
+
+enum {
+    FLAG_CHECKSUM_BLANK = 1,
+    FLAG_DATA_VALIDATED = 2,
+    FLAG_MORE_DATA = 4,
+    FLAG_EXTRA_FOLLOWS = 8,
+
+    EXTRA_GSO = 1,
+    EXTRA_FLAG_ANOTHER = 1,
+    GSO_TCPV4 = 1,
+    GSO_TCPV6 = 2,
+
+    FRAME_PAGES_MAX = 16
+};
+
+/* What both calls are lent. */
+struct lent {
+    uint32_t *consumed;
+    uint8_t *ring;
+    const uint8_t *grants;
+    size_t grant_words;
+    size_t window_pages;
+    struct tollmeander_report *report;
+};
+
+/* A data slot of the transmit ring. */
+struct data_slot {
+    uint32_t gref;
+    uint16_t offset;
+    uint16_t flags;
+    uint16_t id;
+    uint16_t size;
+};
+
+/* A packet as it stands on the transmit ring. */
+struct packet {
+    uint32_t extras;
+    uint32_t gso_size;          /* of the last extra */
+    uint32_t gso_type;
+    uint32_t data_slots;
+    uint32_t later_sizes;       /* of the data slots after the first, together */
+    struct data_slot data[TOLLMEANDER_PACKET_SLOTS_MAX];
+};
+
+/* A part of the window that goes into a frame. */
+struct part {
+    const uint8_t *from;
+    size_t length;
+};
+
+/*
+ * The part of the window that a piece of a frame goes to. Where gcc sees that a
+ * length is at most a page, it copies by "rep movsq" and not by memcpy, which
+ * takes twice as long for 64 bytes; of a length from a table it knows nothing.
+ */
+struct piece {
+    uint8_t *to;
+    size_t length;
+};
+
+/* Why a packet or a frame is refused; cause 0 if it is not. */
+struct verdict {
+    uint32_t cause;
+    uint32_t place;
+};
+
+static uint16_t get16(const uint8_t *from)
+{
+    return (uint16_t)(from[0] | from[1] << 8);
+}
+
+static uint32_t get32(const uint8_t *from)
+{
+    return get16(from) | (uint32_t)get16(from + 2) << 16;
+}
+
+static void put16(uint8_t *to, uint16_t value)
+{
+    to[0] = (uint8_t)value;
+    to[1] = (uint8_t)(value >> 8);
+}
+
+static void put32(uint8_t *to, uint32_t value)
+{
+    put16(to, (uint16_t)value);
+    put16(to + 2, (uint16_t)(value >> 16));
+}
+
+static uint8_t *slot_at(uint8_t *ring, uint32_t n, size_t slot_size)
+{
+    return ring + TOLLMEANDER_RING_FIRST_SLOT + slot_size * (n % TOLLMEANDER_RING_SLOTS);
+}
+
+static uint8_t *transmit_slot(uint8_t *ring, uint32_t n)
+{
+    return slot_at(ring, n, TOLLMEANDER_TRANSMIT_SLOT_SIZE);
+}
+
+static uint8_t *receive_slot(uint8_t *ring, uint32_t n)
+{
+    return slot_at(ring, n, TOLLMEANDER_RECEIVE_SLOT_SIZE);
+}
+
+/* Whether a reference is granted with all these bits; where its page begins in the window. */
+static bool find_page(const struct lent *lent, uint32_t gref, uint32_t bits, size_t *page)
+{
+    uint32_t word, number;
+
+    if (gref >= lent->grant_words)
+        return false;
+    word = get32(lent->grants + (size_t)gref * TOLLMEANDER_GRANT_SIZE);
+    number = word >> TOLLMEANDER_GRANT_PAGE_SHIFT;
+    *page = (size_t)number * TOLLMEANDER_PAGE_SIZE;
+    return (word & bits) == bits && number < lent->window_pages;
+}
+
+/* Reports an answer that has nothing else to tell. */
+static uint32_t tell(struct tollmeander_report *report, uint32_t answer)
+{
+    *report = (struct tollmeander_report){ .answer = answer };
+    return answer;
+}
+
+static uint32_t halt(uint32_t *halted, struct tollmeander_report *report, uint32_t answer)
+{
+    *halted = 1;
+    return tell(report, answer);
+}
+
+/* Asks for an event at the next request. */
+static uint32_t ask_event(const struct lent *lent, uint32_t req_prod, uint32_t answer)
+{
+    put32(lent->ring + TOLLMEANDER_RING_REQ_EVENT, req_prod + 1);
+    return tell(lent->report, answer);
+}
+
+/* Moves the counter and rsp_prod past slots that are replied to; whether to notify. */
+static bool publish(const struct lent *lent, uint32_t slots)
+{
+    uint32_t new = *lent->consumed + slots;
+
+    *lent->consumed = new;
+    put32(lent->ring + TOLLMEANDER_RING_RSP_PROD, new);
+    return new - get32(lent->ring + TOLLMEANDER_RING_RSP_EVENT) < slots;
+}
+
+/* Ends a call whose slots are replied to with an error. */
+static uint32_t spoil(const struct lent *lent, struct verdict verdict, uint32_t slots)
+{
+    bool notify = publish(lent, slots);
+
+    *lent->report = (struct tollmeander_report){
+        .answer = TOLLMEANDER_SPOILED,
+        .cause = verdict.cause,
+        .place = verdict.place,
+        .slots = slots,
+        .notify = notify,
+    };
+    return TOLLMEANDER_SPOILED;
+}
+
+static struct data_slot read_data_slot(const uint8_t *from)
+{
+    return (struct data_slot){
+        .gref = get32(from),
+        .offset = get16(from + 4),
+        .flags = get16(from + 6),
+        .id = get16(from + 8),
+        .size = get16(from + 10),
+    };
+}
+
+/* Reads extras. The answer is DONE if they are all there, else MISSHAPEN or WAITING. */
+static uint32_t read_extras(uint8_t *ring, uint32_t first, uint32_t posted,
+                            struct packet *packet)
+{
+    uint32_t owed = packet->data[0].flags & FLAG_MORE_DATA ? 1 : 0;
+    uint32_t slots = 1;
+    uint8_t flags;
+
+    do {
+        const uint8_t *from = transmit_slot(ring, first + slots);
+
+        if (slots + 1 + owed > TOLLMEANDER_PACKET_SLOTS_MAX)
+            return TOLLMEANDER_MISSHAPEN;
+        if (slots == posted)
+            return TOLLMEANDER_WAITING;
+        if (from[0] != EXTRA_GSO)
+            return TOLLMEANDER_MISSHAPEN;
+        flags = from[1];
+        packet->gso_size = get16(from + 2);
+        packet->gso_type = from[4];
+        slots++;
+    } while (flags & EXTRA_FLAG_ANOTHER);
+    packet->extras = slots - 1;
+    return TOLLMEANDER_DONE;
+}
+
+/* Reads the data slots after the first, with answers as above. */
+static uint32_t read_more_data(uint8_t *ring, uint32_t first, uint32_t posted,
+                               struct packet *packet)
+{
+    struct data_slot *slot = packet->data;
+    uint32_t slots = 1 + packet->extras;
+    uint32_t sizes = 0;
+
+    do {
+        if (slots == TOLLMEANDER_PACKET_SLOTS_MAX)
+            return TOLLMEANDER_MISSHAPEN;
+        if (slots == posted)
+            return TOLLMEANDER_WAITING;
+        *++slot = read_data_slot(transmit_slot(ring, first + slots));
+        if (slot->flags & FLAG_EXTRA_FOLLOWS)
+            return TOLLMEANDER_MISSHAPEN;
+        sizes += slot->size;
+        slots++;
+    } while (slot->flags & FLAG_MORE_DATA);
+    packet->data_slots = slots - packet->extras;
+    packet->later_sizes = sizes;
+    return TOLLMEANDER_DONE;
+}
+
+/* Reads what follows the first slot of a packet, with answers as above. */
+static uint32_t read_packet(uint8_t *ring, uint32_t first, uint32_t posted,
+                            struct data_slot head, struct packet *packet)
+{
+    uint32_t answer = TOLLMEANDER_DONE;
+
+    packet->extras = 0;
+    packet->gso_size = 0;
+    packet->gso_type = 0;
+    packet->data_slots = 1;
+    packet->later_sizes = 0;
+    packet->data[0] = head;
+    if (head.flags & FLAG_EXTRA_FOLLOWS)
+        answer = read_extras(ring, first, posted, packet);
+    if (answer == TOLLMEANDER_DONE && head.flags & FLAG_MORE_DATA)
+        answer = read_more_data(ring, first, posted, packet);
+    return answer;
+}
+
+/* The cause that the sizes give, or 0. Cause 2 cannot be: a size has 16 bits. */
+static uint32_t judge_sizes(uint32_t total, uint32_t later_sizes)
+{
+    if (total < TOLLMEANDER_FRAME_MIN)
+        return TOLLMEANDER_CAUSE_SHORT;
+    return later_sizes > total ? TOLLMEANDER_CAUSE_SIZES : 0;
+}
+
+/* Finds what a data slot gives to the frame; the cause to refuse it, or 0. */
+static uint32_t find_part(const struct lent *lent, const uint8_t *window,
+                          const struct data_slot *slot, uint32_t length, struct part *part)
+{
+    size_t page;
+
+    if (!find_page(lent, slot->gref, TOLLMEANDER_GRANTED, &page))
+        return TOLLMEANDER_CAUSE_GRANT;
+    if (slot->offset + length > TOLLMEANDER_PAGE_SIZE)
+        return TOLLMEANDER_CAUSE_OFFSET;
+    *part = (struct part){ window + page + slot->offset, length };
+    return 0;
+}
+
+static bool gso_is_good(const struct packet *packet)
+{
+    return packet->gso_size != 0 &&
+           (packet->gso_type == GSO_TCPV4 || packet->gso_type == GSO_TCPV6);
+}
+
+/* Finds the parts of a packet, or the first cause to refuse it. */
+static struct verdict judge(const struct lent *lent, const uint8_t *window,
+                            const struct packet *packet, struct part *parts)
+{
+    const struct data_slot *slot = packet->data;
+    uint32_t cause = judge_sizes(slot->size, packet->later_sizes);
+
+    if (cause == 0)
+        cause = find_part(lent, window, slot, slot->size - packet->later_sizes, parts);
+    if (cause != 0)
+        return (struct verdict){ cause, 0 };
+    for (uint32_t i = 1; i < packet->data_slots; i++) {
+        slot = &packet->data[i];
+        cause = find_part(lent, window, slot, slot->size, &parts[i]);
+        if (cause != 0)
+            return (struct verdict){ cause, packet->extras + i };
+    }
+    if (packet->extras != 0 && !gso_is_good(packet))
+        return (struct verdict){ TOLLMEANDER_CAUSE_GSO, packet->extras };
+    return (struct verdict){ 0, 0 };
+}
+
+/* Joins parts to a frame. */
+static void gather(const struct part *parts, uint32_t count, uint8_t *frame)
+{
+    for (uint32_t i = 0; i < count; i++) {
+        memcpy(frame, parts[i].from, parts[i].length);
+        frame += parts[i].length;
+    }
+}
+
+static void reply_transmit(uint8_t *ring, uint32_t n, uint16_t id, int16_t status)
+{
+    put32(transmit_slot(ring, n), id | (uint32_t)(uint16_t)status << 16);
+}
+
+/* Replies to every slot of a packet, the first of which has counter n. */
+static void reply_packet(uint8_t *ring, uint32_t n, const struct packet *packet, int16_t status)
+{
+    reply_transmit(ring, n, packet->data[0].id, status);
+    for (uint32_t i = 0; i < packet->extras; i++)
+        reply_transmit(ring, ++n, 0, TOLLMEANDER_REPLY_NULL);
+    for (uint32_t i = 1; i < packet->data_slots; i++)
+        reply_transmit(ring, ++n, packet->data[i].id, status);
+}
+
+/* Ends a call whose packet is in the frame and replied to. */
+static uint32_t hand_over(const struct lent *lent, const struct data_slot *head, uint32_t slots,
+                          uint32_t gso_size, uint32_t gso_type)
+{
+    bool notify = publish(lent, slots);
+
+    *lent->report = (struct tollmeander_report){
+        .answer = TOLLMEANDER_DONE,
+        .slots = slots,
+        .notify = notify,
+        .total = head->size,
+        .checksum_blank = head->flags & FLAG_CHECKSUM_BLANK ? 1 : 0,
+        .data_validated = head->flags & FLAG_DATA_VALIDATED ? 1 : 0,
+        .gso_size = gso_size,
+        .gso_type = gso_type,
+    };
+    return TOLLMEANDER_DONE;
+}
+
+/* Takes a packet of one slot. */
+static uint32_t take_one(const struct lent *lent, const struct data_slot *slot,
+                         const uint8_t *window, uint8_t *frame, size_t frame_len)
+{
+    uint32_t n = *lent->consumed;
+    uint32_t cause = judge_sizes(slot->size, 0);
+    struct part part;
+
+    if (cause == 0)
+        cause = find_part(lent, window, slot, slot->size, &part);
+    if (cause != 0) {
+        reply_transmit(lent->ring, n, slot->id, TOLLMEANDER_REPLY_ERROR);
+        return spoil(lent, (struct verdict){ cause, 0 }, 1);
+    }
+    if (frame_len < slot->size)
+        return tell(lent->report, TOLLMEANDER_NO_ROOM);
+    memcpy(frame, part.from, part.length);
+    reply_transmit(lent->ring, n, slot->id, TOLLMEANDER_REPLY_OKAY);
+    return hand_over(lent, slot, 1, 0, 0);
+}
+
+/* Takes a whole packet of any number of slots. */
+static uint32_t take_all(const struct lent *lent, const struct packet *packet,
+                         const uint8_t *window, uint8_t *frame, size_t frame_len)
+{
+    uint32_t n = *lent->consumed;
+    uint32_t slots = packet->data_slots + packet->extras;
+    struct part parts[TOLLMEANDER_PACKET_SLOTS_MAX];
+    struct verdict verdict = judge(lent, window, packet, parts);
+
+    if (verdict.cause != 0) {
+        reply_packet(lent->ring, n, packet, TOLLMEANDER_REPLY_ERROR);
+        return spoil(lent, verdict, slots);
+    }
+    if (frame_len < packet->data[0].size)
+        return tell(lent->report, TOLLMEANDER_NO_ROOM);
+    gather(parts, packet->data_slots, frame);
+    reply_packet(lent->ring, n, packet, TOLLMEANDER_REPLY_OKAY);
+    return hand_over(lent, &packet->data[0], slots, packet->gso_size, packet->gso_type);
+}
+
+uint32_t plain_transmit_take(uint32_t *consumed, uint32_t *halted,
+                             uint8_t *ring, size_t ring_len,
+                             const uint8_t *grants, size_t grants_len,
+                             const uint8_t *window, size_t window_len,
+                             uint8_t *frame, size_t frame_len,
+                             struct tollmeander_report *report)
+{
+    const struct lent lent = { consumed, ring, grants, grants_len / TOLLMEANDER_GRANT_SIZE,
+                               window_len / TOLLMEANDER_PAGE_SIZE, report };
+    struct packet packet;
+    struct data_slot head;
+    uint32_t req_prod, posted, shape;
+
+    if (ring_len != TOLLMEANDER_PAGE_SIZE)
+        return tell(report, TOLLMEANDER_BAD_PAGE);
+    if (*halted)
+        return tell(report, TOLLMEANDER_HALTED);
+    req_prod = get32(ring + TOLLMEANDER_RING_REQ_PROD);
+    posted = req_prod - *consumed;
+    if (posted > TOLLMEANDER_RING_SLOTS)
+        return halt(halted, report, TOLLMEANDER_OVERFLOW);
+    if (posted == 0)
+        return ask_event(&lent, req_prod, TOLLMEANDER_EMPTY);
+    head = read_data_slot(transmit_slot(ring, *consumed));
+    if (!(head.flags & (FLAG_MORE_DATA | FLAG_EXTRA_FOLLOWS)))
+        return take_one(&lent, &head, window, frame, frame_len);
+    shape = read_packet(ring, *consumed, posted, head, &packet);
+    if (shape == TOLLMEANDER_MISSHAPEN)
+        return halt(halted, report, TOLLMEANDER_MISSHAPEN);
+    if (shape == TOLLMEANDER_WAITING)
+        return ask_event(&lent, req_prod, TOLLMEANDER_WAITING);
+    return take_all(&lent, &packet, window, frame, frame_len);
+}
+
+/* Whether a request's grant is fit; where its page begins in the window. */
+static bool find_request(const struct lent *lent, uint32_t n, size_t *page)
+{
+    return find_page(lent, get32(receive_slot(lent->ring, n) + 4),
+                     TOLLMEANDER_GRANTED | TOLLMEANDER_GRANT_WRITABLE, page);
+}
+
+/* Finds where the pieces of a frame go, or the first request that is not fit. */
+static struct verdict find_pieces(const struct lent *lent, uint8_t *window, size_t frame_len,
+                                  struct piece *pieces)
+{
+    uint32_t first = *lent->consumed;
+    size_t left = frame_len;
+
+    for (uint32_t i = 0; left > 0; i++) {
+        size_t length = left < TOLLMEANDER_PAGE_SIZE ? left : TOLLMEANDER_PAGE_SIZE;
+        size_t page;
+
+        if (!find_request(lent, first + i, &page))
+            return (struct verdict){ TOLLMEANDER_CAUSE_GRANT, i };
+        pieces[i] = (struct piece){ window + page, length };
+        left -= length;
+    }
+    return (struct verdict){ 0, 0 };
+}
+
+/* Replies to a request, whose id already stands where the reply's goes. */
+static void reply_receive(uint8_t *ring, uint32_t n, uint16_t flags, int16_t status)
+{
+    uint8_t *to = receive_slot(ring, n);
+
+    put16(to + 2, 0);
+    put32(to + 4, flags | (uint32_t)(uint16_t)status << 16);
+}
+
+/* Ends a call whose frame is in its pages and whose requests are replied to. */
+static uint32_t deliver(const struct lent *lent, uint32_t count, size_t frame_len)
+{
+    bool notify = publish(lent, count);
+
+    *lent->report = (struct tollmeander_report){
+        .answer = TOLLMEANDER_DONE,
+        .slots = count,
+        .notify = notify,
+        .total = (uint32_t)frame_len,
+    };
+    return TOLLMEANDER_DONE;
+}
+
+/* Puts a frame of one page. */
+static uint32_t put_one(const struct lent *lent, uint8_t *window, const uint8_t *frame,
+                        size_t frame_len)
+{
+    uint32_t n = *lent->consumed;
+    size_t page;
+
+    if (!find_request(lent, n, &page)) {
+        reply_receive(lent->ring, n, 0, TOLLMEANDER_REPLY_ERROR);
+        return spoil(lent, (struct verdict){ TOLLMEANDER_CAUSE_GRANT, 0 }, 1);
+    }
+    memcpy(window + page, frame, frame_len);
+    reply_receive(lent->ring, n, 0, (int16_t)frame_len);
+    return deliver(lent, 1, frame_len);
+}
+
+/* Puts a frame of any number of pages. */
+static uint32_t put_all(const struct lent *lent, uint32_t count, uint8_t *window,
+                        const uint8_t *frame, size_t frame_len)
+{
+    uint32_t first = *lent->consumed;
+    struct piece pieces[FRAME_PAGES_MAX];
+    struct verdict verdict = find_pieces(lent, window, frame_len, pieces);
+
+    if (verdict.cause != 0) {
+        for (uint32_t i = 0; i < count; i++)
+            reply_receive(lent->ring, first + i, 0, TOLLMEANDER_REPLY_ERROR);
+        return spoil(lent, verdict, count);
+    }
+    for (uint32_t i = 0; i < count; i++) {
+        memcpy(pieces[i].to, frame, pieces[i].length);
+        frame += pieces[i].length;
+        reply_receive(lent->ring, first + i, i + 1 < count ? FLAG_MORE_DATA : 0,
+                      (int16_t)pieces[i].length);
+    }
+    return deliver(lent, count, frame_len);
+}
+
+uint32_t plain_receive_put(uint32_t *consumed, uint32_t *halted,
+                           uint8_t *ring, size_t ring_len,
+                           const uint8_t *grants, size_t grants_len,
+                           uint8_t *window, size_t window_len,
+                           const uint8_t *frame, size_t frame_len,
+                           struct tollmeander_report *report)
+{
+    const struct lent lent = { consumed, ring, grants, grants_len / TOLLMEANDER_GRANT_SIZE,
+                               window_len / TOLLMEANDER_PAGE_SIZE, report };
+    uint32_t req_prod, posted, count;
+
+    if (ring_len != TOLLMEANDER_PAGE_SIZE)
+        return tell(report, TOLLMEANDER_BAD_PAGE);
+    if (frame_len < TOLLMEANDER_FRAME_MIN || frame_len > TOLLMEANDER_FRAME_MAX)
+        return tell(report, TOLLMEANDER_BAD_LENGTH);
+    if (*halted)
+        return tell(report, TOLLMEANDER_HALTED);
+    req_prod = get32(ring + TOLLMEANDER_RING_REQ_PROD);
+    posted = req_prod - *consumed;
+    if (posted > TOLLMEANDER_RING_SLOTS)
+        return halt(halted, report, TOLLMEANDER_OVERFLOW);
+    count = ((uint32_t)frame_len + TOLLMEANDER_PAGE_SIZE - 1) / TOLLMEANDER_PAGE_SIZE;
+    if (posted < count)
+        return ask_event(&lent, req_prod, TOLLMEANDER_NO_BUFFERS);
+    if (count == 1)
+        return put_one(&lent, window, frame, frame_len);
+    return put_all(&lent, count, window, frame, frame_len);
+}

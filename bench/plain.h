@@ -1,0 +1,23 @@
+/*
+ * The two calls of tollmeander.h in plain C: the yardstick of the bench.
+ */
+#ifndef BENCH_PLAIN_H
+#define BENCH_PLAIN_H
+
+#include "tollmeander.h"
+
+uint32_t plain_transmit_take(uint32_t *consumed, uint32_t *halted,
+                             uint8_t *ring, size_t ring_len,
+                             const uint8_t *grants, size_t grants_len,
+                             const uint8_t *window, size_t window_len,
+                             uint8_t *frame, size_t frame_len,
+                             struct tollmeander_report *report);
+
+uint32_t plain_receive_put(uint32_t *consumed, uint32_t *halted,
+                           uint8_t *ring, size_t ring_len,
+                           const uint8_t *grants, size_t grants_len,
+                           uint8_t *window, size_t window_len,
+                           const uint8_t *frame, size_t frame_len,
+                           struct tollmeander_report *report);
+
+#endif

@@ -1,0 +1,216 @@
+#include "scene.h"
+
+#include <stdbool.h>
+#include <string.h>
+
+enum {
+    /* The counter wraps, and the slots go on at the ring's beginning, halfway through. */
+    FIRST_COUNTER = -128,
+    /* Calls on a ring that they take nothing off. */
+    FRUITLESS_CALLS = 1024,
+
+    GRANT_READ_WRITE = TOLLMEANDER_GRANTED | TOLLMEANDER_GRANT_WRITABLE,
+    UNGRANTED = SCENE_PAGES,
+
+    FLAG_CHECKSUM_BLANK = 1,
+    FLAG_MORE_DATA = 4,
+    FLAG_EXTRA_FOLLOWS = 8,
+    EXTRA_GSO = 1,
+    GSO_SIZE = 1460,
+    GSO_TCPV4 = 1,
+
+    /* From slot to slot parts begin at another cache line, from place to place frames. */
+    OFFSET_STEP = 64,
+    FRAME_STEP = 5 * 64
+};
+
+static void put16(uint8_t *to, uint32_t value)
+{
+    to[0] = (uint8_t)value;
+    to[1] = (uint8_t)(value >> 8);
+}
+
+static void put32(uint8_t *to, uint32_t value)
+{
+    put16(to, value);
+    put16(to + 2, value >> 16);
+}
+
+static uint32_t slots_of(const struct row *row)
+{
+    return row->data_slots + row->extras;
+}
+
+/* Whether the calls of a row take slots off the ring. */
+static bool is_fruitful(const struct row *row)
+{
+    return row->answer == TOLLMEANDER_DONE || row->answer == TOLLMEANDER_SPOILED;
+}
+
+/* The bytes of data slot k: equal shares, and what is left over for the first. */
+static uint32_t share(const struct row *row, uint32_t k)
+{
+    uint32_t later = (row->total + row->data_slots - 1) / row->data_slots;
+
+    return k == 0 ? row->total - later * (row->data_slots - 1) : later;
+}
+
+/* The offset of a part: spread over the page as far as there is room. */
+static uint32_t offset_of(const struct row *row, uint32_t n, uint32_t part)
+{
+    uint32_t room = TOLLMEANDER_PAGE_SIZE - row->offset - part;
+
+    return row->offset + n % (room / OFFSET_STEP + 1) * OFFSET_STEP;
+}
+
+static uint8_t *slot_at(struct scene *scene, uint32_t n, uint32_t size)
+{
+    return scene->filled + TOLLMEANDER_RING_FIRST_SLOT + n % TOLLMEANDER_RING_SLOTS * size;
+}
+
+static void add_copy(struct scene *scene, uint32_t to, uint32_t from, uint32_t length)
+{
+    if (scene->row->answer == TOLLMEANDER_DONE)
+        scene->copy[scene->copies++] = (struct copy){ to, from, length };
+}
+
+static void post_extra(struct scene *scene, uint32_t n)
+{
+    uint8_t *slot = slot_at(scene, n, TOLLMEANDER_TRANSMIT_SLOT_SIZE);
+
+    slot[0] = EXTRA_GSO;
+    put16(slot + 2, GSO_SIZE);
+    slot[4] = GSO_TCPV4;
+}
+
+/* Posts data slot k of a packet, with counter n; its part goes to a place in the frame. */
+static void post_data(struct scene *scene, uint32_t n, uint32_t k, uint32_t place)
+{
+    const struct row *row = scene->row;
+    uint8_t *slot = slot_at(scene, n, TOLLMEANDER_TRANSMIT_SLOT_SIZE);
+    uint32_t part = share(row, k);
+    uint32_t offset = offset_of(row, n, part);
+    uint32_t page = n % SCENE_PAGES;
+    bool is_last = k + 1 == row->data_slots;
+    uint32_t flags = is_last ? 0 : FLAG_MORE_DATA;
+
+    if (k == 0)
+        flags |= FLAG_CHECKSUM_BLANK;
+    if (k == 0 && row->extras > 0)
+        flags |= FLAG_EXTRA_FOLLOWS;
+    put32(slot, row->answer == TOLLMEANDER_SPOILED && is_last ? UNGRANTED : page);
+    put16(slot + 4, offset);
+    put16(slot + 6, flags);
+    put16(slot + 8, n);
+    put16(slot + 10, k == 0 ? row->total : part);
+    add_copy(scene, place, page * TOLLMEANDER_PAGE_SIZE + offset, part);
+}
+
+static void post_packet(struct scene *scene, uint32_t n)
+{
+    const struct row *row = scene->row;
+    uint32_t place = 0;
+
+    for (uint32_t k = 0; k < row->data_slots; k++) {
+        post_data(scene, n++, k, place);
+        place += share(row, k);
+        for (uint32_t i = 0; k == 0 && i < row->extras; i++)
+            post_extra(scene, n++);
+    }
+}
+
+static void post_requests(struct scene *scene, uint32_t n)
+{
+    const struct row *row = scene->row;
+    uint32_t place = 0;
+
+    for (uint32_t k = 0; k < row->data_slots; k++, n++) {
+        uint8_t *slot = slot_at(scene, n, TOLLMEANDER_RECEIVE_SLOT_SIZE);
+        uint32_t left = row->total - place;
+        uint32_t piece = left < TOLLMEANDER_PAGE_SIZE ? left : TOLLMEANDER_PAGE_SIZE;
+        uint32_t page = n % SCENE_PAGES;
+
+        put16(slot, n);
+        put32(slot + 4, page);
+        add_copy(scene, page * TOLLMEANDER_PAGE_SIZE, place, piece);
+        place += piece;
+    }
+}
+
+/* Fills a ring page with packets or requests. */
+static void post_all(struct scene *scene)
+{
+    const struct row *row = scene->row;
+    uint32_t runs = is_fruitful(row) ? scene->calls : 1;
+
+    memset(scene->filled, 0, sizeof scene->filled);
+    for (uint32_t i = 0; i < runs; i++) {
+        uint32_t n = scene->counter + i * slots_of(row);
+
+        if (row->way == TRANSMIT)
+            post_packet(scene, n);
+        else
+            post_requests(scene, n);
+    }
+    put32(scene->filled + TOLLMEANDER_RING_REQ_PROD, scene->counter + scene->posted);
+    put32(scene->filled + TOLLMEANDER_RING_RSP_PROD, scene->counter);
+    put32(scene->filled + TOLLMEANDER_RING_RSP_EVENT, scene->counter + scene->posted);
+}
+
+/* A grant to each page of the window, then a word that grants nothing. */
+static void grant_all(struct scene *scene)
+{
+    for (uint32_t i = 0; i < SCENE_PAGES; i++)
+        put32(scene->grants + i * TOLLMEANDER_GRANT_SIZE,
+              i << TOLLMEANDER_GRANT_PAGE_SHIFT | GRANT_READ_WRITE);
+    put32(scene->grants + UNGRANTED * TOLLMEANDER_GRANT_SIZE, 0);
+}
+
+void scene_make(struct scene *scene, const struct row *row, unsigned place)
+{
+    uint32_t slots = slots_of(row);
+
+    scene->row = row;
+    scene->counter = (uint32_t)FIRST_COUNTER;
+    scene->calls = is_fruitful(row) ? TOLLMEANDER_RING_SLOTS / slots : FRUITLESS_CALLS;
+    scene->posted = is_fruitful(row) ? scene->calls * slots : slots - 1;
+    scene->frame = scene->frame_room + place * FRAME_STEP % TOLLMEANDER_PAGE_SIZE;
+    scene->frame_len = row->way == TRANSMIT ? SCENE_FRAME : row->total;
+    scene->copies = 0;
+    grant_all(scene);
+    post_all(scene);
+    scene_fill(scene);
+}
+
+void scene_fill(struct scene *scene)
+{
+    for (int i = 0; i < SCENE_RINGS; i++)
+        memcpy(scene->rings[i], scene->filled, sizeof scene->filled);
+}
+
+void scene_copy(struct scene *scene)
+{
+    bool is_transmit = scene->row->way == TRANSMIT;
+    uint8_t *to = is_transmit ? scene->frame : scene->window;
+    const uint8_t *from = is_transmit ? scene->window : scene->frame;
+
+    for (uint32_t i = 0; i < scene->copies; i++)
+        memcpy(to + scene->copy[i].to, from + scene->copy[i].from, scene->copy[i].length);
+}
+
+/* Random bytes by a linear congruence. */
+static uint32_t write_bytes(uint8_t *to, size_t length, uint32_t random)
+{
+    for (size_t i = 0; i < length; i++) {
+        random = random * 1664525 + 1013904223;
+        to[i] = (uint8_t)(random >> 24);
+    }
+    return random;
+}
+
+void scene_write(struct scene *scene)
+{
+    uint32_t random = write_bytes(scene->window, sizeof scene->window, 1);
+
+    write_bytes(scene->frame, SCENE_FRAME, random);
+}
