@@ -1,0 +1,2 @@
+-- The claim, proved.
+pub mod Hold

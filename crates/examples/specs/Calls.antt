@@ -1,0 +1,108 @@
+-- What the rows of the table are made of: slots, ring pages, and calls on them.
+use mathlib.Core.List.{List, [], _∷_, _++_}
+use Prim.Native.Nat.{ℕ, _-_}
+use lib.ListN.{length, replicate}
+use Rattle.words.specs.Word.{u32At, u16Bytes, u32Bytes}
+use Rattle.ring.specs.Ring.{pageSize, slotAt}
+use Rattle.netif.specs.Slot.{Slot, slotWidth, slotCount, requestWidth, requestCount}
+use Rattle.netif.specs.declared.Queue.{Queue}
+use Rattle.netif.specs.Report.{goOn, Report, flag}
+use Rattle.transmit.specs.Take.{Outcome, transmitTake}
+use Rattle.receive.specs.Put.{Delivery, receivePut}
+
+abbrev pub zeros : ℕ → List ℕ
+zeros n = replicate n 0
+
+-- ---- slots
+
+-- the data slot and the extra that document 01 spells out, the extra with any type of its own
+abbrev pub slotA : Slot
+slotA = 0x03 ∷ 0x00 ∷ 0x00 ∷ 0x00 ∷ 0x64 ∷ 0x00 ∷ 0x00 ∷ 0x00 ∷ 0x07 ∷ 0x00 ∷ 0x3C ∷ 0x00 ∷ []
+
+abbrev pub extraA : ℕ → Slot
+extraA type = (type ∷ 0x00 ∷ 0xB4 ∷ 0x05 ∷ 0x01 ∷ 0x00 ∷ 0x00 ∷ 0x00 ∷ []) ++ zeros 4
+
+-- a data slot and a request that name reference 0
+abbrev pub dataSlot : (offset flags id size : ℕ) → Slot
+dataSlot offset flags id size = u32Bytes 0 ++ u16Bytes offset ++ u16Bytes flags ++ u16Bytes id ++ u16Bytes size
+
+abbrev pub request : (id : ℕ) → Slot
+request id = u16Bytes id ++ u16Bytes 0 ++ u32Bytes 0
+
+-- one, two and three data slots: of these sizes; of 5000, 1000 and 500 bytes, the first at an offset
+abbrev pub one : ℕ → List Slot
+one a = dataSlot 0 0 1 a ∷ []
+
+abbrev pub two : ℕ → ℕ → List Slot
+two a b = dataSlot 0 4 1 a ∷ dataSlot 0 0 2 b ∷ []
+
+abbrev pub three : (offset : ℕ) → List Slot
+three offset = dataSlot offset 4 1 5000 ∷ dataSlot 0 4 2 1000 ∷ dataSlot 0 0 3 500 ∷ []
+
+-- a first slot that announces an extra, and the extra
+abbrev pub withExtra : (type : ℕ) → List Slot
+withExtra type = dataSlot 0 8 1 60 ∷ extraA type ∷ []
+
+-- a first slot that announces extras and more data, and so many extras that each announce another
+abbrev pub withExtras : ℕ → List Slot
+withExtras n = dataSlot 0 12 1 60 ∷ replicate n (1 ∷ 1 ∷ zeros 10)
+
+-- ---- ring pages
+
+-- a page's header: req_prod and rsp_event, and 0 between them
+abbrev pub header : (requests event : ℕ) → List ℕ
+header requests event = u32Bytes requests ++ zeros 8 ++ u32Bytes event
+
+-- a page at counter 0 on which so many slots are posted, of which these are the first; the guest waits for the first reply
+abbrev pub laid : List Slot → List ℕ
+laid [] = []
+laid (s ∷ l) = s ++ laid l
+
+abbrev pub ringPage : ℕ → List Slot → List ℕ
+ringPage posted slots = let b = header posted 1 ++ zeros 48 ++ laid slots in b ++ zeros (pageSize - length b)
+
+-- ---- calls. Of the references 0 to 3, 0 and 3 grant the window's one page
+
+abbrev pub grants : List ℕ
+grants = u32Bytes 3 ++ u32Bytes 0 ++ u32Bytes 0 ++ u32Bytes 3
+
+abbrev pub window : List ℕ
+window = zeros 4096
+
+-- a transmit call with a frame buffer of so many bytes; the usual one, on all of these slots and with room for every frame
+abbrev pub takesOn : Queue → (page : List ℕ) (room : ℕ) → Outcome
+takesOn q page room = transmitTake grants window q page (zeros room)
+
+abbrev pub takes : List Slot → Outcome
+takes slots = takesOn (goOn 0) (ringPage (length slots) slots) 65535
+
+-- a receive call on all of these requests with a frame of so many bytes
+abbrev pub puts : List Slot → ℕ → Delivery
+puts requests n = receivePut grants (goOn 0) (ringPage (length requests) requests) window (zeros n)
+
+-- ---- what is asked of a call
+
+-- the answer, the cause and the place
+abbrev pub answered : Outcome → List ℕ
+answered o = o .report .answer ∷ o .report .cause ∷ o .report .place ∷ []
+
+-- slots, notify, total and the gso fields
+abbrev pub reported : Outcome → List ℕ
+reported o = o .report .slots ∷ o .report .notifies ∷ o .report .total ∷ o .report .gsoSizeWord ∷ o .report .gsoTypeWord ∷ []
+
+-- the answer, and what is left: the counter, the mark, and req_event on the page
+abbrev pub state : Report → Queue → (page : List ℕ) → List ℕ
+state r q page = r .answer ∷ q .consumed ∷ flag (q .halted) ∷ u32At page 4 ∷ []
+
+abbrev pub taken : Outcome → List ℕ
+taken o = state (o .report) (o .queue) (o .page)
+
+abbrev pub delivered : Delivery → List ℕ
+delivered d = state (d .report) (d .queue) (d .page)
+
+-- the bytes of slot n, and of request n, on the page
+abbrev pub slotOf : Outcome → ℕ → List ℕ
+slotOf o n = slotAt slotWidth slotCount (o .page) n
+
+abbrev pub requestOf : Delivery → ℕ → List ℕ
+requestOf d n = slotAt requestWidth requestCount (d .page) n

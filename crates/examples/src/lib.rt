@@ -1,0 +1,1 @@
+// No code: a table of examples in specs/, and its claim in proofs/.

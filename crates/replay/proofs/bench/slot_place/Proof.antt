@@ -1,0 +1,19 @@
+-- `replay::bench::slot_place` meets its contract: the last of 256 slots of 12 bytes ends within the page.
+use native.Mathlib.Omega.{arith}
+use borrow.Author.Needs.{needs}
+use Rattle.ring.specs.Ring.{slotPlace}
+use Rattle.replay.proofs.bench.slot_place.Statement.{statement}
+use Rattle.replay.proofs.bench.slot_place.Tie as tie
+use Rattle.replay.proofs.bench.slot_place.Reads as reads
+use Rattle.replay.proofs.bench.slot_place.Lts as lts
+use Rattle.ring.proofs.place.Reads as place-reads
+
+place-requires : tie.Need-place-requires
+place-requires c κs = search needs
+
+returns : tie.Need-returns
+unfolding slotPlace
+returns c = omega (arith, c .place .ensures)
+
+pub slot-place-spec : {M : Type 1} → statement M
+slot-place-spec = tie.close (tie.spec place-requires returns)

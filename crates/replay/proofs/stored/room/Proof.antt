@@ -1,0 +1,14 @@
+use mathlib.Core.Path.{sym}
+use Prim.Native.Nat.{ℕ}
+use lib.ListN.{length-replicate}
+use Rattle.replay.proofs.stored.room.Statement.{statement}
+use Rattle.replay.proofs.stored.room.Tie as tie
+use Rattle.replay.proofs.stored.room.Reads as reads
+use Rattle.replay.proofs.stored.room.Lts as lts
+
+-- src/stored.rt:50:1
+returns : tie.Need-returns
+returns c = sym (length-replicate {0} {A = ℕ} 1048576 0)
+
+pub room-spec : {M : Type 1} → statement M
+room-spec = tie.close (tie.spec returns)

@@ -1,0 +1,157 @@
+// The calls on a ring, one after another, up to and including the first that takes nothing.
+ghost use mathlib.Core.Path.{_≡_};
+ghost use mathlib.Core.Bool.{_||_};
+ghost use Prim.Native.Nat.{_≤_, _<_};
+ghost use lib.Dec.{eqb};
+ghost use Rattle.ring.specs.Ring.{rspProd};
+ghost use Rattle.io.specs.Counts.{Counts};
+use crate::checksum;
+use crate::line;
+
+// A ring holds at most 256 slots, and each call but the last takes one or more.
+const MOST_CALLS: u32 = 257;
+
+const LONGEST: usize = 65535;
+
+const RSP_PROD: usize = 8;
+
+// The counter of the slots that were consumed when a ring was left: all have their replies.
+fn counter(page: &[u8; 4096]) -> u32
+    ensures { λ r. ⌜ r ≡ rspProd (now (page .entry)) ⌝ }
+{
+    words::u32_at(page, RSP_PROD)
+}
+
+// Whether a call with this answer took something: done or spoiled.
+fn took(answer: u32) -> bool
+    ensures { λ r. ⌜ r ≡ (eqb answer 0 || eqb answer 7) ⌝ }
+{
+    answer == 0 || answer == 7
+}
+
+// A transmit call and its line; whether it took something.
+fn transmit_call(
+    name: &[u8],
+    consumed: &mut u32,
+    halted: &mut u32,
+    page: &mut [u8],
+    grants: &[u8],
+    window: &[u8],
+) -> bool {
+    let mut frame = [0u8; 65535];
+    let mut report = [0u32; 10];
+    line::begin(name, b" tx", *consumed);
+    let answer = tollmeander::tollmeander_transmit_take(
+        consumed,
+        halted,
+        page,
+        grants,
+        window,
+        &mut frame,
+        &mut report,
+    );
+    line::words(&report);
+    line::sums(checksum::of_first(&frame, report[5]), checksum::of(page));
+    line::end();
+    took(answer)
+}
+
+// The calls on a transmit ring.
+pub fn transmit(name: &[u8], page: &mut [u8; 4096], grants: &[u8], window: &[u8]) {
+    let mut consumed = counter(page);
+    let mut halted: u32 = 0;
+    let mut calls: u32 = 0;
+    while calls < MOST_CALLS
+        && transmit_call(name, &mut consumed, &mut halted, page, grants, window)
+    {
+        calls += 1;
+    }
+}
+
+// The length of the frame that a receive call delivers.
+fn frame_length(call: u32) -> usize
+    ensures { λ r. ⌜ r ≤ 65535 ⌝ }
+{
+    match call % 9 {
+        0 => 14,
+        1 => 60,
+        2 => 1514,
+        3 => 4095,
+        4 => 4096,
+        5 => 4097,
+        6 => 8192,
+        7 => 9000,
+        _ => LONGEST,
+    }
+}
+
+// Fills a buffer with bytes that differ from one to the next and from fill to fill.
+pub fn fill(bytes: &mut [u8], start: u32) {
+    let mut i: usize = 0;
+    while i < bytes.len() {
+        bytes[i] = ((i % 251 + start as usize) % 251) as u8;
+        i += 1;
+    }
+}
+
+// Puts the frame that a receive call delivers at the front of a buffer; its length.
+fn frame_of(call: u32, buffer: &mut [u8; 65535]) -> usize
+    requires { ⌜ call < 257 ⌝ }
+    ensures { λ r. ⌜ Counts r (now (buffer .exit)) ⌝ }
+{
+    fill(buffer, 7 * call + 1);
+    frame_length(call)
+}
+
+// A receive call and its line; whether it took something.
+fn receive_call(
+    name: &[u8],
+    call: u32,
+    consumed: &mut u32,
+    halted: &mut u32,
+    page: &mut [u8],
+    grants: &[u8],
+    window: &mut [u8],
+) -> bool
+    requires { ⌜ call < 257 ⌝ }
+{
+    let mut buffer = [0u8; 65535];
+    let mut report = [0u32; 10];
+    let n = frame_of(call, &mut buffer);
+    let frame = &buffer[..n];
+    line::begin(name, b" rx", *consumed);
+    let answer = tollmeander::tollmeander_receive_put(
+        consumed,
+        halted,
+        page,
+        grants,
+        window,
+        frame,
+        &mut report,
+    );
+    line::words(&report);
+    line::sums(checksum::of_first(frame, report[5]), checksum::of(page));
+    line::window(checksum::of(window));
+    line::end();
+    took(answer)
+}
+
+// The calls on a receive ring.
+pub fn receive(name: &[u8], page: &mut [u8; 4096], grants: &[u8], window: &mut [u8]) {
+    let mut consumed = counter(page);
+    let mut halted: u32 = 0;
+    let mut calls: u32 = 0;
+    while calls < MOST_CALLS
+        && receive_call(
+            name,
+            calls,
+            &mut consumed,
+            &mut halted,
+            page,
+            grants,
+            window,
+        )
+    {
+        calls += 1;
+    }
+}

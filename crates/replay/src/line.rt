@@ -1,0 +1,71 @@
+// The line of a call.
+use libc::STDOUT_FILENO;
+
+fn text(bytes: &[u8]) {
+    io::write_all(STDOUT_FILENO, bytes);
+}
+
+fn number(label: &[u8], n: u32) {
+    text(label);
+    io::print_decimal(STDOUT_FILENO, n as u64);
+}
+
+fn sum(label: &[u8], n: u32) {
+    text(label);
+    io::print_hex(STDOUT_FILENO, n as u64, 8);
+}
+
+// The name of an answer.
+fn answer(n: u32) {
+    match n {
+        0 => text(b" done"),
+        1 => text(b" bad-page"),
+        2 => text(b" halted-already"),
+        3 => text(b" overflow"),
+        4 => text(b" empty"),
+        5 => text(b" misshapen"),
+        6 => text(b" waiting"),
+        7 => text(b" spoiled"),
+        8 => text(b" no-room"),
+        9 => text(b" bad-frame-length"),
+        10 => text(b" no-buffers"),
+        _ => text(b" ?"),
+    }
+}
+
+// The line's start: the ring's name and kind, and the counter before the call.
+pub fn begin(name: &[u8], ring: &[u8], consumed: u32) {
+    text(name);
+    text(ring);
+    number(b" consumed ", consumed);
+}
+
+// The ten words of a report.
+pub fn words(report: &[u32; 10]) {
+    number(b" answer ", report[0]);
+    answer(report[0]);
+    number(b" cause ", report[1]);
+    number(b" place ", report[2]);
+    number(b" slots ", report[3]);
+    number(b" notify ", report[4]);
+    number(b" total ", report[5]);
+    number(b" blank ", report[6]);
+    number(b" validated ", report[7]);
+    number(b" gso ", report[8]);
+    number(b" ", report[9]);
+}
+
+// The checksums of the frame and of the ring page.
+pub fn sums(frame: u32, page: u32) {
+    sum(b" frame ", frame);
+    sum(b" page ", page);
+}
+
+// The checksum of the window.
+pub fn window(n: u32) {
+    sum(b" window ", n);
+}
+
+pub fn end() {
+    text(b"\n");
+}

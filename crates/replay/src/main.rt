@@ -1,0 +1,24 @@
+// Runs the stored ring pages of real guests that its arguments name, and then document 01's examples that are not proved, through
+// the library's two calls, and prints a line for each call. tests/reference/FORMAT.md describes the inputs and the lines.
+mod bench;
+mod calls;
+mod checksum;
+mod line;
+mod stored;
+
+// The calls on the ring in the folder that an argument names.
+fn replay(i: usize) {
+    let mut name = [0u8; 64];
+    let n = os::arg(i, &mut name);
+    stored::replay(&name[..n]);
+}
+
+fn main() {
+    let count = os::arg_count();
+    let mut i: usize = 1;
+    while i < count {
+        replay(i);
+        i += 1;
+    }
+    bench::replay();
+}
