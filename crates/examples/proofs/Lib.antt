@@ -1,2 +1,3 @@
 -- The claim, proved.
 pub mod Hold
+pub mod Taken
