@@ -1,2 +1,3 @@
--- The claim, proved.
+-- The claim over the table, and the sequence.
 pub mod Hold
+pub mod Reach
