@@ -1,3 +1,3 @@
--- The claim, proved.
+-- The claim over the table, and the sequence.
 pub mod Hold
 pub mod Taken

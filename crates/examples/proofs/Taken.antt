@@ -1,5 +1,5 @@
--- Demand 3 speaks of something: on a fresh queue one packet of two slots is published in two publications, the call between them is
--- told waiting, and the call after both takes the packet.
+-- On a fresh queue one packet of two slots is published in two publications, the call between them is told waiting, and the call
+-- after both takes the packet: by computation.
 use mathlib.Core.Path.{_≡_, refl}
 use mathlib.Core.List.{List, [], _∷_}
 use Prim.Native.Nat.{ℕ, zero, suc, _+_, _<_}
@@ -13,11 +13,11 @@ use Rattle.netif.specs.Slot.{gref, offset, flags, ident, size, moreData, extraF
 use Rattle.netif.specs.Grammar.{within}
 use Rattle.netif.specs.Divide.{divide}
 use Rattle.netif.specs.Report.{goOn}
-use Rattle.netif.specs.Service.{taken}
 use Rattle.transmit.specs.Judge.{totalOf, ownPart, parts, judgeSizes, judgeSlot, judgeSlots, judge, dataReply, extraReply, repliesOf}
 use Rattle.transmit.specs.Take.{waitingSlots, doneReport, repliesTo, repliedPage, spoiled, handedOver, look, transmitTake}
-use Rattle.transmit.specs.Sequence.{State, Fresh, Published, afterPublication, Call, callAt, outcomeOf, answerOf, afterCall, Sequence, Took, Told}
+use Rattle.transmit.specs.Sequence.{Fresh, Published, afterPublication, callAt, outcomeOf, answerOf, afterCall, Sequence}
 use Rattle.examples.specs.Calls.{zeros, two, ringPage, grants, window}
+use Rattle.examples.specs.Taken.{OneTaken}
 
 -- the pages: fresh, with the first slot published, and with both
 abbrev blank : List ℕ
@@ -43,8 +43,8 @@ first = Sequence.publish (Sequence.fresh is-fresh) half 1 (record {
   kept = λ i h. absurd (omega (arith, h));
 })
 
-pub one-taken : (s : State) × (calls : List Call) × Sequence grants window 0 s calls × (taken Call (answerOf grants window) (Took grants window) (Told grants window) calls ≡ 1)
-unfolding afterPublication callAt outcomeOf answerOf afterCall u16At u32At bit u16Bytes u32Bytes splice wadd wsub withReqEvent withRspProd posted asking notify slotPlace slotAt hasWord word granted writable pageOf inRange usable fitTransmit gref offset flags ident size moreData extraFollows isExtra anotherExtra gsoSize gsoType transmitReply within divide totalOf ownPart parts judgeSizes judgeSlot judgeSlots judge dataReply extraReply repliesOf waitingSlots doneReport repliesTo repliedPage spoiled handedOver look transmitTake
+pub one-taken : OneTaken
+unfolding OneTaken afterPublication callAt outcomeOf answerOf afterCall u16At u32At bit u16Bytes u32Bytes splice wadd wsub withReqEvent withRspProd posted asking notify slotPlace slotAt hasWord word granted writable pageOf inRange usable fitTransmit gref offset flags ident size moreData extraFollows isExtra anotherExtra gsoSize gsoType transmitReply within divide totalOf ownPart parts judgeSizes judgeSlot judgeSlots judge dataReply extraReply repliesOf waitingSlots doneReport repliesTo repliedPage spoiled handedOver look transmitTake
 one-taken = (
   _,
   _,

@@ -53,11 +53,12 @@ withExtras n = dataSlot 0 12 1 60 ∷ replicate n (1 ∷ 1 ∷ zeros 10)
 abbrev pub header : (requests event : ℕ) → List ℕ
 header requests event = u32Bytes requests ++ zeros 8 ++ u32Bytes event
 
--- a page at counter 0 on which so many slots are posted, of which these are the first; the guest waits for the first reply
+-- slots laid end to end
 abbrev pub laid : List Slot → List ℕ
 laid [] = []
 laid (s ∷ l) = s ++ laid l
 
+-- a page at counter 0 on which so many slots are posted, of which these are the first; the guest waits for the first reply
 abbrev pub ringPage : ℕ → List Slot → List ℕ
 ringPage posted slots = let b = header posted 1 ++ zeros 48 ++ laid slots in b ++ zeros (pageSize - length b)
 

@@ -56,11 +56,11 @@ rows =
     ∷ ("grant word 0D: page 3, granted, not writable" ∣ pageOf (u32Bytes 0x0D) 0 ∷ flag (granted (u32Bytes 0x0D) 0) ∷ flag (writable (u32Bytes 0x0D) 0) ∷ [] ⇒ 3 ∷ 1 ∷ 0 ∷ [])
     ∷ ("another extra announced in the sixteenth place: waiting" ∣ answered (takes (withExtras 15)) ⇒ 6 ∷ 0 ∷ 0 ∷ [])
     ∷ ("another extra announced in the seventeenth place: misshapen" ∣ answered (takes (withExtras 16)) ⇒ 5 ∷ 0 ∷ 0 ∷ [])
-    -- the answers that none of these has: the answer, the counter, the mark and req_event
+    -- the answers that none of these has, and what is left: the answer, the counter, the mark and req_event
     ∷ ("a page of 4095 bytes: bad page" ∣ taken (takesOn (goOn 0) (zeros 4095) 65535) ⇒ 1 ∷ 0 ∷ 0 ∷ 0 ∷ [])
     ∷ ("a halted queue: halted already" ∣ taken (takesOn (halt (goOn 0)) (ringPage 1 (one 14)) 65535) ⇒ 2 ∷ 0 ∷ 1 ∷ 0 ∷ [])
-    ∷ ("257 posted: overflow" ∣ taken (takesOn (goOn 0) (ringPage 257 (one 14)) 65535) ⇒ 3 ∷ 0 ∷ 1 ∷ 0 ∷ [])
     ∷ ("256 posted: done" ∣ taken (takesOn (goOn 0) (ringPage 256 (one 14)) 65535) ⇒ 0 ∷ 1 ∷ 0 ∷ 0 ∷ [])
+    ∷ ("257 posted: overflow" ∣ taken (takesOn (goOn 0) (ringPage 257 (one 14)) 65535) ⇒ 3 ∷ 0 ∷ 1 ∷ 0 ∷ [])
     ∷ ("nothing posted: empty" ∣ taken (takes []) ⇒ 4 ∷ 0 ∷ 0 ∷ 1 ∷ [])
     ∷ ("two slots of three: waiting" ∣ taken (takesOn (goOn 0) (ringPage 2 (three 596)) 65535) ⇒ 6 ∷ 0 ∷ 0 ∷ 3 ∷ [])
     ∷ ("total 14, frame buffer 13: no room" ∣ taken (takesOn (goOn 0) (ringPage 1 (one 14)) 13) ⇒ 8 ∷ 0 ∷ 0 ∷ 0 ∷ [])

@@ -5,16 +5,24 @@ ghost use lib.ListN.{length};
 use crate::calls;
 use netif::DataSlot;
 
+const REQ_PROD: usize = 0;
+
+const REQ_EVENT: usize = 4;
+
+const RSP_PROD: usize = 8;
+
+const RSP_EVENT: usize = 12;
+
 const PAGES: u32 = 18;
 
-// A page with a header: slots posted from a counter on, and events asked for at the next of each.
+// A page without slots: so many are posted from a counter on, and each side asks for an event at the next.
 fn ring_page(consumed: u32, posted: u32) -> [u8; 4096] {
     let mut page = [0u8; 4096];
     let next = ring::ahead(consumed, 1);
-    words::put_u32(&mut page, 0, ring::ahead(consumed, posted));
-    words::put_u32(&mut page, 4, next);
-    words::put_u32(&mut page, 8, consumed);
-    words::put_u32(&mut page, 12, next);
+    words::put_u32(&mut page, REQ_PROD, ring::ahead(consumed, posted));
+    words::put_u32(&mut page, REQ_EVENT, next);
+    words::put_u32(&mut page, RSP_PROD, consumed);
+    words::put_u32(&mut page, RSP_EVENT, next);
     page
 }
 
@@ -134,6 +142,7 @@ fn extra(name: &[u8], kind: u8) {
     run(name, &mut page);
 }
 
+// All of them, in FORMAT.md's order.
 pub fn replay() {
     singles(b"posted-256", 256);
     singles(b"posted-257", 257);

@@ -2,9 +2,11 @@
 ghost use mathlib.Core.Path.{_≡_};
 ghost use mathlib.Core.Bool.{_||_};
 ghost use Prim.Native.Nat.{_≤_, _<_};
+ghost use lib.ListN.{length};
 ghost use lib.Dec.{eqb};
 ghost use Rattle.ring.specs.Ring.{rspProd};
 ghost use Rattle.io.specs.Counts.{Counts};
+ghost use Rattle.replay.specs.Pattern.{Counted};
 use crate::checksum;
 use crate::line;
 
@@ -15,7 +17,7 @@ const LONGEST: usize = 65535;
 
 const RSP_PROD: usize = 8;
 
-// The counter of the slots that were consumed when a ring was left: all have their replies.
+// The counter at which a stored ring was left: all slots consumed have their replies.
 fn counter(page: &[u8; 4096]) -> u32
     ensures { λ r. ⌜ r ≡ rspProd (now (page .entry)) ⌝ }
 {
@@ -85,8 +87,10 @@ fn frame_length(call: u32) -> usize
     }
 }
 
-// Fills a buffer with bytes that differ from one to the next and from fill to fill.
-pub fn fill(bytes: &mut [u8], start: u32) {
+// Fills a buffer with bytes that count up from a start, modulo 251.
+pub fn fill(bytes: &mut [u8], start: u32)
+    ensures { λ _. ⌜ Counted start (length (now (bytes .entry))) (now (bytes .exit)) ⌝ }
+{
     let mut i: usize = 0;
     while i < bytes.len() {
         bytes[i] = ((i % 251 + start as usize) % 251) as u8;

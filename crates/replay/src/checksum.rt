@@ -30,7 +30,7 @@ pub fn of(bytes: &[u8]) -> u32
     hash
 }
 
-// The checksum of the first of them, or of all where there are no more.
+// The checksum of the first count bytes, or of all where there are fewer.
 pub fn of_first(bytes: &[u8], count: u32) -> u32
     ensures { λ r. ⌜ r ≡ checksum (take count (now (bytes .entry))) ⌝ }
 {

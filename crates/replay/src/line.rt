@@ -1,15 +1,18 @@
-// The line of a call.
+// The line of a call, written field by field.
 use libc::STDOUT_FILENO;
 
+// Bytes as they are.
 fn text(bytes: &[u8]) {
     io::write_all(STDOUT_FILENO, bytes);
 }
 
+// A label and a number.
 fn number(label: &[u8], n: u32) {
     text(label);
     io::print_decimal(STDOUT_FILENO, n as u64);
 }
 
+// A label and a checksum.
 fn sum(label: &[u8], n: u32) {
     text(label);
     io::print_hex(STDOUT_FILENO, n as u64, 8);
@@ -66,6 +69,7 @@ pub fn window(n: u32) {
     sum(b" window ", n);
 }
 
+// The line's end.
 pub fn end() {
     text(b"\n");
 }

@@ -1,12 +1,10 @@
+-- `replay::bench::grant_table` is safe and ends. The measure is the number of references that are left.
 use mathlib.Core.Path.{_≡_}
 use Prim.Native.Nat.{_-_, _≤_}
 use lib.ListN.{length}
 use borrow.Author.Needs.{needs}
 use Rattle.replay.proofs.bench.grant_table.Statement.{statement}
 use Rattle.replay.proofs.bench.grant_table.Tie as tie
-use Rattle.replay.proofs.bench.grant_table.Reads as reads
-use Rattle.replay.proofs.bench.grant_table.Lts as lts
-use Rattle.words.proofs.put_u32.Reads as put-u32-reads
 
 abbrev Inv-loop : tie.InvT-loop
 Inv-loop grants₀ g₀ grants g = (g ≤ 18) × (72 ≡ length grants)
@@ -14,47 +12,36 @@ Inv-loop grants₀ g₀ grants g = (g ≤ 18) × (72 ≡ length grants)
 abbrev μ-loop : tie.MeasureT-loop
 μ-loop grants₀ g₀ grants g = 18 - g
 
--- src/bench.rt:73:5
 loop-holds : tie.Need-loop-holds Inv-loop μ-loop
 loop-holds c = search needs
 
--- src/bench.rt:74:24
 slice-aggregate-put-u32 : tie.Need-slice-aggregate-put-u32 Inv-loop μ-loop
 slice-aggregate-put-u32 c = search needs
 
--- src/bench.rt:74:42
 cast-put-u32 : tie.Need-cast-put-u32 Inv-loop μ-loop
 cast-put-u32 c = search needs
 
--- src/bench.rt:74:37
 mul-put-u32 : tie.Need-mul-put-u32 Inv-loop μ-loop
 mul-put-u32 c = search needs
 
--- src/bench.rt:74:55
 mul-put-u32-2 : tie.Need-mul-put-u32-2 Inv-loop μ-loop
 mul-put-u32-2 c = search needs
 
--- src/bench.rt:74:55
 add-put-u32 : tie.Need-add-put-u32 Inv-loop μ-loop
 add-put-u32 c = search needs
 
--- src/bench.rt:74:9
 put-u32-requires : tie.Need-put-u32-requires Inv-loop μ-loop
 put-u32-requires c κs = search needs
 
--- src/bench.rt:75:9
 add-g : tie.Need-add-g Inv-loop μ-loop
 add-g c = search needs
 
--- src/bench.rt:73:5
 loop-less : tie.Need-loop-less Inv-loop μ-loop
 loop-less c = search needs
 
--- src/bench.rt:73:5
 loop-again : tie.Need-loop-again Inv-loop μ-loop
 loop-again c = search needs
 
--- src/bench.rt:68:1
 returns : tie.Need-returns Inv-loop μ-loop
 returns c = search needs
 

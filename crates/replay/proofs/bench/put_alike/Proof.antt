@@ -1,10 +1,8 @@
+-- `replay::bench::put_alike` is safe and ends. The measure is the number of slots that are left.
 use Prim.Native.Nat.{_-_, _≤_}
 use borrow.Author.Needs.{needs}
 use Rattle.replay.proofs.bench.put_alike.Statement.{statement}
 use Rattle.replay.proofs.bench.put_alike.Tie as tie
-use Rattle.replay.proofs.bench.put_alike.Reads as reads
-use Rattle.replay.proofs.bench.put_alike.Lts as lts
-use Rattle.replay.proofs.bench.put_data.Reads as put-data-reads
 
 abbrev Inv-loop : tie.InvT-loop
 Inv-loop page₀ first from to offset flags size k₀ page k = k ≤ to
@@ -12,27 +10,21 @@ Inv-loop page₀ first from to offset flags size k₀ page k = k ≤ to
 abbrev μ-loop : tie.MeasureT-loop
 μ-loop page₀ first from to offset flags size k₀ page k = to - k
 
--- src/bench.rt:51:5
 loop-holds : tie.Need-loop-holds Inv-loop μ-loop
 loop-holds c = search needs
 
--- src/bench.rt:52:9
 put-data-requires : tie.Need-put-data-requires Inv-loop μ-loop
 put-data-requires c κs = search needs
 
--- src/bench.rt:53:9
 add-k : tie.Need-add-k Inv-loop μ-loop
 add-k c = search needs
 
--- src/bench.rt:51:5
 loop-less : tie.Need-loop-less Inv-loop μ-loop
 loop-less c = search needs
 
--- src/bench.rt:51:5
 loop-again : tie.Need-loop-again Inv-loop μ-loop
 loop-again c = search needs
 
--- src/bench.rt:39:1
 returns : tie.Need-returns Inv-loop μ-loop
 returns c = search needs
 

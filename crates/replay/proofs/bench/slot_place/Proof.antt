@@ -4,9 +4,6 @@ use borrow.Author.Needs.{needs}
 use Rattle.ring.specs.Ring.{slotPlace}
 use Rattle.replay.proofs.bench.slot_place.Statement.{statement}
 use Rattle.replay.proofs.bench.slot_place.Tie as tie
-use Rattle.replay.proofs.bench.slot_place.Reads as reads
-use Rattle.replay.proofs.bench.slot_place.Lts as lts
-use Rattle.ring.proofs.place.Reads as place-reads
 
 place-requires : tie.Need-place-requires
 place-requires c κs = search needs

@@ -1,67 +1,67 @@
-use mathlib.Core.Path.{_≡_}
-use Prim.Native.Nat.{_-_, _≤_}
-use lib.ListN.{length, length-set}
+-- `replay::calls::fill` meets its contract. The invariant: the bytes passed count up, and the length stays.
+use mathlib.Core.Path.{_≡_, _∙_}
+use mathlib.Core.List.{List}
+use Prim.Native.Nat.{ℕ, _+_, _-_, _%_, _≤_, _<_}
 use native.Mathlib.Omega.{arith}
+use lib.ListN.{length, set, length-set}
+use lib.Seq.{getD-set-same, getD-set-other}
+use borrow.Author.Count.{below-none, below-more}
 use borrow.Author.Needs.{needs}
+use Rattle.replay.specs.Pattern.{Counted}
 use Rattle.replay.proofs.calls.fill.Statement.{statement}
 use Rattle.replay.proofs.calls.fill.Tie as tie
-use Rattle.replay.proofs.calls.fill.Reads as reads
-use Rattle.replay.proofs.calls.fill.Lts as lts
+
+counted-none : (start : ℕ) (l : List ℕ) → Counted start 0 l
+unfolding Counted
+counted-none start l = below-none _
+
+counted-more : (start i : ℕ) (l : List ℕ) → i < length l → Counted start i l → Counted start (i + 1) (set l i ((i % 251 + start) % 251))
+unfolding Counted
+counted-more start i l h all =
+    let v = (i % 251 + start) % 251 in
+    below-more _ i
+    (λ k lt. getD-set-other l i k v 0 (λ e. absurd (omega (arith, e, lt))) ∙ all k lt)
+    (getD-set-same l i v 0 h ∙ omega arith)
+
+counted-all : (start i n : ℕ) (l : List ℕ) → n ≤ i → Counted start i l → Counted start n l
+unfolding Counted
+counted-all start i n l h all k lt = all k (omega arith)
 
 abbrev Inv-loop : tie.InvT-loop
-Inv-loop bytes₀ start i₀ bytes i = (i ≤ length bytes) × (length bytes ≡ length bytes₀)
+Inv-loop bytes₀ start i₀ bytes i = (i ≤ length bytes) × (length bytes ≡ length bytes₀) × Counted start i bytes
 
 abbrev μ-loop : tie.MeasureT-loop
 μ-loop bytes₀ start i₀ bytes i = length bytes₀ - i
 
--- src/calls.rt:83:5
 loop-holds : tie.Need-loop-holds Inv-loop μ-loop
-loop-holds c = search needs
+loop-holds c = (search needs, search needs, counted-none _ _)
 
--- src/calls.rt:84:22
 add-bytes : tie.Need-add-bytes Inv-loop μ-loop
 add-bytes c = search needs
 
--- src/calls.rt:84:20
 cast-bytes : tie.Need-cast-bytes Inv-loop μ-loop
 cast-bytes c = search needs
 
--- src/calls.rt:84:9
 slice-write-bytes : tie.Need-slice-write-bytes Inv-loop μ-loop
 slice-write-bytes c = search needs
 
--- src/calls.rt:85:9
 add-i : tie.Need-add-i Inv-loop μ-loop
 add-i c = search needs
 
--- src/calls.rt:83:5
 loop-less : tie.Need-loop-less Inv-loop μ-loop
 loop-less c = search needs
 
--- src/calls.rt:83:5
 loop-again : tie.Need-loop-again Inv-loop μ-loop
-loop-again c = (simp length-set (omega arith), simp length-set (omega arith))
+loop-again c = (simp length-set (omega arith), simp length-set (omega arith), counted-more (c .before .before .args .start) (c .before .loop .i) (c .before .loop .bytes) (omega arith) (c .before .loop .inv .2))
 
--- src/calls.rt:81:1
 same-length : tie.Need-same-length Inv-loop μ-loop
 same-length c = search needs
 
--- src/calls.rt:81:1
 returns : tie.Need-returns Inv-loop μ-loop
-returns c = search needs
+returns c =
+    counted-all (c .before .before .args .start) (c .before .loop .i) (length (c .before .before .args .bytes .now)) (c .before .loop .bytes) (omega arith) (c .before .loop .inv .2)
 
 pub fill-spec : {M : Type 1} → statement M
 fill-spec =
     tie.close
-    (tie.spec
-    Inv-loop
-    μ-loop
-    loop-holds
-    add-bytes
-    cast-bytes
-    slice-write-bytes
-    add-i
-    loop-less
-    loop-again
-    same-length
-    returns)
+    (tie.spec Inv-loop μ-loop loop-holds add-bytes cast-bytes slice-write-bytes add-i loop-less loop-again same-length returns)

@@ -2,8 +2,6 @@
 use borrow.Author.Tests.{eq-eqb, ne-eqb}
 use Rattle.replay.proofs.calls.took.Statement.{statement}
 use Rattle.replay.proofs.calls.took.Tie as tie
-use Rattle.replay.proofs.calls.took.Reads as reads
-use Rattle.replay.proofs.calls.took.Lts as lts
 
 returns : tie.Need-returns
 returns c = rw (eq-eqb _ _ (c .if1 .taken))

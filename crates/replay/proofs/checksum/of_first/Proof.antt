@@ -1,32 +1,25 @@
+-- `replay::checksum::of_first` meets its contract: it hands over a prefix, or all where the prefix is all.
 use mathlib.Core.Path.{sym, ap, _∙_}
 use native.Mathlib.Omega.{arith}
 use lib.Seq.{take-all}
+use borrow.Author.Needs.{needs}
 use Rattle.io.proofs.Counting.{front}
 use Rattle.replay.specs.Fnv.{checksum}
-use borrow.Author.Needs.{needs}
 use Rattle.replay.proofs.checksum.of_first.Statement.{statement}
 use Rattle.replay.proofs.checksum.of_first.Tie as tie
-use Rattle.replay.proofs.checksum.of_first.Reads as reads
-use Rattle.replay.proofs.checksum.of_first.Lts as lts
-use Rattle.replay.proofs.checksum.of.Reads as of-reads
 
--- src/checksum.rt:39:19
 slice-aggregate-of : tie.Need-slice-aggregate-of
 slice-aggregate-of c = front _ _ (omega arith)
 
--- src/checksum.rt:39:9
 of-requires : tie.Need-of-requires
 of-requires c κs = search needs
 
--- src/checksum.rt:39:9
 returns : tie.Need-returns
 returns c = search needs
 
--- src/checksum.rt:41:5
 of-requires-2 : tie.Need-of-requires-2
 of-requires-2 c κs = search needs
 
--- src/checksum.rt:34:1
 returns-2 : tie.Need-returns-2
 returns-2 c = c .of2 .ensures ∙ ap checksum (sym (take-all (c .before .before .before .args .count) (c .before .before .before .args .bytes .now) (omega arith)))
 

@@ -1,12 +1,10 @@
+-- `replay::stored::room` meets its contract. The law of the length is given its type, so that nothing counts the zeros.
 use mathlib.Core.Path.{sym}
 use Prim.Native.Nat.{ℕ}
 use lib.ListN.{length-replicate}
 use Rattle.replay.proofs.stored.room.Statement.{statement}
 use Rattle.replay.proofs.stored.room.Tie as tie
-use Rattle.replay.proofs.stored.room.Reads as reads
-use Rattle.replay.proofs.stored.room.Lts as lts
 
--- src/stored.rt:50:1
 returns : tie.Need-returns
 returns c = sym (length-replicate {0} {A = ℕ} 1048576 0)
 
