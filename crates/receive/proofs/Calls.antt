@@ -1,15 +1,24 @@
 -- From the stages to the call: what is left after replies and scatter is what the definition says, and which of its cases a call
 -- comes to, test by test.
 use mathlib.Core.Path.{_≡_, refl, sym, ap, _∙_}
-use mathlib.Core.List.{List}
+use mathlib.Core.List.{List, [], _∷_}
 use mathlib.Core.Bool.{Bool, true, false, _||_}
 use Prim.Native.Nat.{ℕ, _+_, _*_, _≤_, _<_}
 use native.Mathlib.Omega.{arith}
 use lib.ListN.{length, take}
+use lib.Seq.{take-all}
 use lib.Dec.{ltb, eqb}
 use borrow.Author.Tests.{lt-ltb, le-ltb, ltb-false}
-use Rattle.ring.specs.Ring.{wadd, notify, posted, asking, withRspProd, withReplies}
+use Rattle.words.specs.Word.{splice}
+use Rattle.ring.specs.Ring.{wadd, notify, slotPlace, slotAt, posted, asking, withRspProd, withReplies}
 use Rattle.ring.proofs.Ring.{slots-length}
+use Rattle.grant.specs.Grant.{withPage}
+use Rattle.grant.specs.Found.{writePage}
+use Rattle.grant.specs.declared.Page.the-variants as found
+use Rattle.grant.proofs.Grant.{receive-transmit, fit-page}
+use Rattle.netif.specs.Slot.{requestIdent, requestGref, receiveReply}
+use Rattle.netif.specs.Decode.{requestOf}
+use Rattle.netif.specs.declared.Request.{Request}
 use Rattle.netif.specs.Report.{halt, goOn, plain, spoiledReport, reportOf}
 use Rattle.netif.specs.declared.Queue.{Queue}
 use Rattle.netif.specs.declared.Outcome.{Outcome}
@@ -18,8 +27,8 @@ use Rattle.netif.specs.declared.Answer.the-variants as answer
 use Rattle.netif.specs.declared.Verdict.{Verdict}
 use Rattle.netif.specs.declared.Verdict.the-variants.{Good, Bad}
 use Rattle.receive.specs.Put.{badLength, needed, requestsFrom, pagesNamed, scatter, errorReplies, pieceReplies, receiveReport, Delivery, told, refuse, deliver, settle, receivePut, Delivered}
-use Rattle.receive.specs.Stages.{AllUsable, Judged, Finished}
-use Rattle.receive.proofs.Requests.{good-usable}
+use Rattle.receive.specs.Stages.{AllUsable, Judged, Finished, Concluded}
+use Rattle.receive.proofs.Requests.{request-unfit, request-fit, good-usable}
 use Rattle.receive.proofs.Pieces.{errors-notify, pieces-notify}
 
 -- ---- the requests that a frame needs
@@ -32,19 +41,22 @@ pub needed-cover : (n : ℕ) → 4096 * needed n ≤ n + 4095
 unfolding needed
 needed-cover n = omega arith
 
+pub one-piece : (n : ℕ) → needed n ≡ 1 → n ≤ 4096
+unfolding needed
+one-piece n h = omega arith
+
 -- ---- consumed
 
-module _ (old count : ℕ) (page : List ℕ) (size : length page ≡ 4096) (few : count ≤ 16) (new : ℕ) (ahead : new ≡ wadd old count) (r : Outcome) (goes : r .queue ≡ goOn new) where
+module _ (old count : ℕ) (page : List ℕ) (size : length page ≡ 4096) (few : count ≤ 16) where
   all : count ≡ length (requestsFrom page old count)
   all = sym (slots-length 8 256 page count old)
 
-  counter : new ≡ wadd old (length (requestsFrom page old count))
-  counter = ahead ∙ ap (wadd old) all
-
-  pub refused : (cause place : ℕ) (mid last : List ℕ) (notifies : Bool) → mid ≡ withReplies 8 256 page old (errorReplies (requestsFrom page old count)) → Finished mid old new last notifies
-      → r .answer ≡ answer.Spoiled cause place count notifies → (window : List ℕ) → Delivered (refuse old page window (requestsFrom page old count) cause place) r last window
+  pub refused : (new : ℕ) → new ≡ wadd old count → (cause place : ℕ) (mid last : List ℕ) (notifies : Bool) (r : Outcome) → mid ≡ withReplies 8 256 page old (errorReplies (requestsFrom page old count))
+      → Finished mid old new last notifies → r .answer ≡ answer.Spoiled cause place count notifies → r .queue ≡ goOn new
+      → (window : List ℕ) → Delivered (refuse old page window (requestsFrom page old count) cause place) r last window
   unfolding refuse
-  refused cause place mid last notifies m f a window =
+  refused new ahead cause place mid last notifies r m f a goes window =
+      let counter : new ≡ wadd old (length (requestsFrom page old count)) = ahead ∙ ap (wadd old) all in
       let told : notifies ≡ notify page old (wadd old (length (requestsFrom page old count)))
       = f .notifies ∙ ap (λ (p : List ℕ). notify p old new) m ∙ errors-notify page size old count few old new ∙ ap (notify page old) counter in
       record {
@@ -54,19 +66,49 @@ module _ (old count : ℕ) (page : List ℕ) (size : length page ≡ 4096) (few 
         window = refl;
       }
 
-  pub delivered : (pages window frame mid last window′ : List ℕ) (notifies : Bool) → mid ≡ withReplies 8 256 page old (pieceReplies (requestsFrom page old count) frame) → Finished mid old new last notifies
-      → window′ ≡ scatter window pages frame → reportOf (r .answer) ≡ receiveReport count notifies (length frame)
+  pub delivered : (pages window frame mid last window′ : List ℕ) (r : Outcome) → mid ≡ withReplies 8 256 page old (pieceReplies (requestsFrom page old count) frame)
+      → Concluded mid old count (length frame) last r → window′ ≡ scatter window pages frame
       → Delivered (deliver old page window (requestsFrom page old count) pages frame) r last window′
   unfolding deliver
-  delivered pages window frame mid last window′ notifies m f w a =
-      let told : notifies ≡ notify page old (wadd old (length (requestsFrom page old count)))
-      = f .notifies ∙ ap (λ (p : List ℕ). notify p old new) m ∙ pieces-notify page size old count few frame old new ∙ ap (notify page old) counter in
+  delivered pages window frame mid last window′ r m e w =
+      let counter : wadd old count ≡ wadd old (length (requestsFrom page old count)) = ap (wadd old) all in
+      let told : notify mid old (wadd old count) ≡ notify page old (wadd old (length (requestsFrom page old count)))
+      = ap (λ (p : List ℕ). notify p old (wadd old count)) m ∙ pieces-notify page size old count few frame old (wadd old count) ∙ ap (notify page old) counter in
       record {
-        report = a ∙ (λ i. receiveReport (all i) (told i) (length frame));
-        queue = goes ∙ ap goOn counter;
-        page = f .page ∙ (λ i. withRspProd (m i) (counter i));
+        report = e .report ∙ (λ i. receiveReport (all i) (told i) (length frame));
+        queue = e .queue ∙ ap goOn counter;
+        page = e .page ∙ (λ i. withRspProd (m i) (counter i));
         window = w;
       }
+
+-- ---- a frame of one piece
+
+module _ (old : ℕ) (page window frame : List ℕ) (short : length frame ≤ 4096) where
+  whole : take 4096 frame ≡ frame
+  whole = take-all 4096 frame short
+
+  pub one-delivered : (p : ℕ) (mid last window′ : List ℕ) (r : Outcome) → length page ≡ 4096
+      → mid ≡ splice page (slotPlace 8 256 old) (receiveReply (requestIdent (slotAt 8 256 page old)) 0 0 (length frame)) → Concluded mid old 1 (length frame) last r
+      → window′ ≡ withPage window p frame → Delivered (deliver old page window (requestsFrom page old 1) (p ∷ []) frame) r last window′
+  one-delivered p mid last window′ r size m e w =
+      delivered old 1 page size (omega arith) (p ∷ []) window frame mid last window′ r
+      (m ∙ ap (λ (l : List ℕ). splice page (slotPlace 8 256 old) (receiveReply (requestIdent (slotAt 8 256 page old)) 0 0 (length l))) (sym whole))
+      e (w ∙ ap (withPage window p) (sym whole))
+
+module _ (table window page : List ℕ) (old : ℕ) (q : Request) (reads : q ≡ requestOf (slotAt 8 256 page old)) where
+  pub one-unfit : found.Unfit ≡ writePage table window (q .gref) → (frame : List ℕ) (r : Outcome) (ring′ window′ : List ℕ) → Delivered (refuse old page window (requestsFrom page old 1) 4 0) r ring′ window′
+      → Delivered (settle table old page window (requestsFrom page old 1) frame) r ring′ window′
+  one-unfit h frame r ring′ window′ d = rw (request-unfit table window page old q reads h) d
+
+  module _ (p : ℕ) (fit : found.Fit p ≡ writePage table window (q .gref)) where
+    pub one-page : 4096 * p + 4096 ≤ length window
+    one-page =
+        let (fits, named) = request-fit table window page old q reads p fit in
+        rw named (fit-page table window (requestGref (slotAt 8 256 page old)) (receive-transmit table window (requestGref (slotAt 8 256 page old)) fits))
+
+    pub one-fit : (frame : List ℕ) (r : Outcome) (ring′ window′ : List ℕ) → Delivered (deliver old page window (requestsFrom page old 1) (p ∷ []) frame) r ring′ window′
+        → Delivered (settle table old page window (requestsFrom page old 1) frame) r ring′ window′
+    one-fit frame r ring′ window′ d = let (fits, named) = request-fit table window page old q reads p fit in rw (fits, ← named) d
 
 -- ---- by what the judge found
 
@@ -95,6 +137,9 @@ or-false false b h = h
 pub good-length : (n : ℕ) → badLength n ≡ false → n ≤ 65535
 unfolding badLength
 good-length n h = ltb-false 65535 n (or-false (ltb n 14) (ltb 65535 n) h)
+
+pub sized-page : (page : List ℕ) → length page ≡ 4096 → eqb (length page) 4096 ≡ true
+sized-page page h = ap (λ (n : ℕ). eqb n 4096) h
 
 -- an answer whose other fields are 0
 pub told-so : (d : Delivery) (n : ℕ) (q : Queue) (page window ring′ : List ℕ) (a : Answer) (r : Outcome) → d ≡ told n q page window → (r .answer ≡ a) × (r .queue ≡ q) → reportOf a ≡ plain n → ring′ ≡ page → Delivered d r ring′ window

@@ -1,16 +1,16 @@
 -- The requests of a frame as the code judges them: one more that is fit, one that is not, the table of their pages, and that
 -- the pages of requests that are all fit lie in the window.
 use mathlib.Core.Path.{_≡_, refl, sym, ap, _∙_}
-use mathlib.Core.List.{List, [], _∷_, _++_, map, map-append}
-use mathlib.Core.Bool.{Bool, true, false, not, cond}
-use Prim.Native.Nat.{ℕ, suc, _+_, _-_, _*_, _≤_, _<_}
+use mathlib.Core.List.{List, [], _∷_, _++_, map-append}
+use mathlib.Core.Bool.{Bool, true, false, not}
+use Prim.Native.Nat.{ℕ, suc, _+_, _-_, _<_}
 use native.Mathlib.Omega.{arith}
 use native.Mathlib.Numerals.{add-one}
 use lib.ListN.{length, take, set}
 use lib.Seq.{take-suc-set}
 use Rattle.ring.specs.Ring.{wadd, slotAt}
 use Rattle.ring.proofs.Ring.{slots-snoc, slots-length}
-use Rattle.grant.specs.Grant.{fitReceive, pageOf}
+use Rattle.grant.specs.Grant.{fitReceive}
 use Rattle.grant.specs.Found.{writePage}
 use Rattle.grant.specs.declared.Page.the-variants as found
 use Rattle.grant.proofs.Grant.{write-fit, write-unfit, receive-transmit, fit-page}
@@ -31,12 +31,20 @@ gref-field s r h = ap (λ (x : Request). x .gref) h
 not-good : (c k : ℕ) → Bad c k ≡ Good → ⊥
 not-good c k h = let z : _≡_ {A = ℕ} 0 1 = cc in omega arith
 
-module _ (table window page : List ℕ) (first count n i : ℕ) (here : n ≡ wadd first i) (r : Request) (reads : r ≡ requestOf (slotAt 8 256 page n)) where
+-- the request at slot n: the page that its grant names, or that it is unfit
+module _ (table window page : List ℕ) (n : ℕ) (r : Request) (reads : r ≡ requestOf (slotAt 8 256 page n)) where
   grefs : r .gref ≡ requestGref (slotAt 8 256 page n)
   grefs = gref-field (slotAt 8 256 page n) r reads
 
+  pub request-unfit : found.Unfit ≡ writePage table window (r .gref) → fitReceive table window (requestGref (slotAt 8 256 page n)) ≡ false
+  request-unfit h = write-unfit table window (requestGref (slotAt 8 256 page n)) (rw grefs at h)
+
+  pub request-fit : (p : ℕ) → found.Fit p ≡ writePage table window (r .gref) → (fitReceive table window (requestGref (slotAt 8 256 page n)) ≡ true) × (p ≡ pageNamed table (slotAt 8 256 page n))
+  request-fit p h = write-fit table window (requestGref (slotAt 8 256 page n)) p (rw grefs at h)
+
+module _ (table window page : List ℕ) (first count n i : ℕ) (here : n ≡ wadd first i) (r : Request) (reads : r ≡ requestOf (slotAt 8 256 page n)) where
   judge-unfit : i < count → found.Unfit ≡ writePage table window (r .gref) → judge table window i (requestsFrom page (first + i) (count - i)) ≡ Bad 4 i
-  judge-unfit k h = rw (slots-ahead 8 256 refl page first n i count k here, write-unfit table window (requestGref (slotAt 8 256 page n)) (rw grefs at h))
+  judge-unfit k h = rw (slots-ahead 8 256 refl page first n i count k here, request-unfit table window page n r reads h)
 
   -- it is unfit
   pub judged-unfit : (pages : List ℕ) → length pages ≡ 16 → judge table window 0 (requestsFrom page first count) ≡ judge table window i (requestsFrom page (first + i) (count - i))
@@ -46,7 +54,7 @@ module _ (table window page : List ℕ) (first count n i : ℕ) (here : n ≡ wa
   -- it is fit
   module _ (p : ℕ) (fit : found.Fit p ≡ writePage table window (r .gref)) where
     fits : (fitReceive table window (requestGref (slotAt 8 256 page n)) ≡ true) × (p ≡ pageNamed table (slotAt 8 256 page n))
-    fits = write-fit table window (requestGref (slotAt 8 256 page n)) p (rw grefs at fit)
+    fits = request-fit table window page n r reads p fit
 
     pub judge-fit : i < count → judge table window i (requestsFrom page (first + i) (count - i)) ≡ judge table window (i + 1) (requestsFrom page (first + (i + 1)) (count - (i + 1)))
     judge-fit k = rw (slots-ahead 8 256 refl page first n i count k here, fits .0, add-one i)

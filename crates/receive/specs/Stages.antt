@@ -4,11 +4,13 @@ use mathlib.Core.Bool.{Bool}
 use mathlib.Core.List.{List, [], _∷_}
 use Prim.Native.Nat.{ℕ, _+_, _*_, _≤_}
 use lib.ListN.{length, take}
-use Rattle.ring.specs.Ring.{notify, withRspProd}
+use Rattle.ring.specs.Ring.{notify, wadd, withRspProd}
 use Rattle.netif.specs.Slot.{Slot}
+use Rattle.netif.specs.Report.{goOn, reportOf}
+use Rattle.netif.specs.declared.Outcome.{Outcome}
 use Rattle.netif.specs.declared.Verdict.{Verdict}
-use Rattle.netif.specs.declared.Verdict.the-variants.{Good, Bad}
-use Rattle.receive.specs.Put.{judge, pagesNamed}
+use Rattle.netif.specs.declared.Verdict.the-variants.{Good}
+use Rattle.receive.specs.Put.{judge, pagesNamed, receiveReport}
 
 -- pages that lie within a window of n bytes
 abbrev pub AllUsable : ℕ → List ℕ → Type 0
@@ -25,3 +27,9 @@ pub record Judged (table window : List ℕ) (requests : List Slot) (pages : List
 pub record Finished (before : List ℕ) (old new : ℕ) (after : List ℕ) (r : Bool) : Type 0 where
   pub page : after ≡ withRspProd before new
   pub notifies : r ≡ notify before old new
+
+-- a delivery of total bytes to count requests, whose replies stand in the page, was ended
+pub record Concluded (before : List ℕ) (old count total : ℕ) (after : List ℕ) (r : Outcome) : Type 0 where
+  pub report : reportOf (r .answer) ≡ receiveReport count (notify before old (wadd old count)) total
+  pub queue : r .queue ≡ goOn (wadd old count)
+  pub page : after ≡ withRspProd before (wadd old count)

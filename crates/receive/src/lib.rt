@@ -1,7 +1,8 @@
 // The receive call: a frame goes into the pages that the guest's requests name.
 ghost use mathlib.Core.Path.{_≡_};
+ghost use mathlib.Core.Bool.{false};
 ghost use Prim.Native.Nat.{_+_, _-_, _*_, _≤_, ℕ, min};
-ghost use mathlib.Core.List.{List};
+ghost use mathlib.Core.List.{List, [], _∷_};
 ghost use lib.ListN.{length, take};
 ghost use Rattle.words.specs.Word.{splice};
 ghost use Rattle.ring.specs.Ring.{pageSize, slotPlace, slotAt, withReplies};
@@ -9,7 +10,7 @@ ghost use Rattle.grant.specs.Found.{writePage};
 ghost use Rattle.netif.specs.Slot.{requestWidth, requestCount, requestIdent, receiveReply};
 ghost use Rattle.netif.specs.Report.{halt, goOn};
 ghost use Rattle.receive.specs.Put.{pieceSize, badLength, needed, requestsFrom, replyFlags, scatter, pieceReplies, errorReplies, refuse, deliver, settle, receivePut, Delivered};
-ghost use Rattle.receive.specs.Stages.{AllUsable, Judged, Finished};
+ghost use Rattle.receive.specs.Stages.{AllUsable, Judged, Finished, Concluded};
 use grant::Page;
 use netif::Answer;
 use netif::Outcome;
@@ -227,6 +228,25 @@ fn refuse(ring: &mut [u8], old: u32, count: u32, cause: u32, place: u32) -> Outc
     told(answer, go_on(new))
 }
 
+// Ends a delivery of so many bytes to so many requests, which have their replies.
+fn conclude(ring: &mut [u8], old: u32, count: u32, total: u32) -> Outcome
+    requires { ⌜ length (now ring) ≡ pageSize ⌝ }
+    ensures { λ r. ⌜ Concluded (now (ring .entry)) old count total (now (ring .exit)) r ⌝ }
+{
+    let new = ring::ahead(old, count);
+    let notify = finish(ring, old, new);
+    let summary = Summary {
+        slots: count,
+        notify,
+        total,
+        checksum_blank: false,
+        data_validated: false,
+        gso_size: 0,
+        gso_type: 0,
+    };
+    told(Answer::Done(summary), go_on(new))
+}
+
 // Consumes requests that are all fit: the pages of the table get the pieces of the frame.
 fn deliver(
     window: &mut [u8],
@@ -247,20 +267,39 @@ fn deliver(
         (deliver old (now (ring .entry)) (now (window .entry)) (requestsFrom (now (ring .entry)) old count) (take count (now (pages .entry))) (now (frame .entry)))
         r (now (ring .exit)) (now (window .exit)) ⌝ }
 {
-    let new = ring::ahead(old, count);
     scatter(window, pages, count as usize, frame);
     reply_pieces(ring, old, count, frame);
-    let notify = finish(ring, old, new);
-    let summary = Summary {
-        slots: count,
-        notify,
-        total: frame.len() as u32,
-        checksum_blank: false,
-        data_validated: false,
-        gso_size: 0,
-        gso_type: 0,
-    };
-    told(Answer::Done(summary), go_on(new))
+    conclude(ring, old, count, frame.len() as u32)
+}
+
+// Consumes one request that is fit: its page gets the frame, which is one piece.
+fn deliver_one(window: &mut [u8], ring: &mut [u8], old: u32, page: u32, frame: &[u8]) -> Outcome
+    requires { ⌜
+        (length (now ring) ≡ pageSize)
+        × (length (now frame) ≤ pieceSize)
+        × (4096 * page + 4096 ≤ length (now window)) ⌝ }
+    ensures { λ r. ⌜
+        Delivered
+        (deliver old (now (ring .entry)) (now (window .entry)) (requestsFrom (now (ring .entry)) old 1) (page ∷ []) (now (frame .entry)))
+        r (now (ring .exit)) (now (window .exit)) ⌝ }
+{
+    grant::write(window, page, frame);
+    reply(ring, old, 0, frame.len() as u16);
+    conclude(ring, old, 1, frame.len() as u32)
+}
+
+// Consumes the one request that a frame of one piece needs, with no loop and no table.
+fn settle_one(grants: &[u8], window: &mut [u8], ring: &mut [u8], old: u32, frame: &[u8]) -> Outcome
+    requires { ⌜ (length (now ring) ≡ pageSize) × (length (now frame) ≤ pieceSize) ⌝ }
+    ensures { λ r. ⌜
+        Delivered
+        (settle (now (grants .entry)) old (now (ring .entry)) (now (window .entry)) (requestsFrom (now (ring .entry)) old 1) (now (frame .entry)))
+        r (now (ring .exit)) (now (window .exit)) ⌝ }
+{
+    match page_of(grants, window, Request::at(ring, old)) {
+        Page::Unfit => refuse(ring, old, 1, UNFIT, 0),
+        Page::Fit(page) => deliver_one(window, ring, old, page, frame),
+    }
 }
 
 // Consumes the requests that a frame needs. All of them are tested before anything is written.
@@ -285,6 +324,35 @@ fn settle(
     }
 }
 
+// Puts a frame of a good length into the pages of the requests at the counter of a queue that is not halted.
+fn put_running(
+    queue: Queue,
+    grants: &[u8],
+    window: &mut [u8],
+    ring: &mut [u8],
+    frame: &[u8],
+) -> Outcome
+    requires { ⌜ (length (now ring) ≡ pageSize) × (badLength (length (now frame)) ≡ false) × (queue .halted ≡ false) ⌝ }
+    ensures { λ r. ⌜
+        Delivered
+        (receivePut (now (grants .entry)) queue (now (ring .entry)) (now (window .entry)) (now (frame .entry))) r
+        (now (ring .exit)) (now (window .exit)) ⌝ }
+{
+    let posted = ring::posted(ring, queue.consumed);
+    if Request::COUNT < posted {
+        return told(Answer::Overflow, halt(queue));
+    }
+    let count = needed(frame.len());
+    if posted < count {
+        ring::ask_event(ring);
+        return told(Answer::NoBuffers, queue);
+    }
+    if count == 1 {
+        return settle_one(grants, window, ring, queue.consumed, frame);
+    }
+    settle(grants, window, ring, queue.consumed, count, frame)
+}
+
 // Puts a frame into the pages of the requests at the counter.
 pub fn put(queue: Queue, grants: &[u8], window: &mut [u8], ring: &mut [u8], frame: &[u8]) -> Outcome
     ensures { λ r. ⌜
@@ -301,14 +369,5 @@ pub fn put(queue: Queue, grants: &[u8], window: &mut [u8], ring: &mut [u8], fram
     if queue.halted {
         return told(Answer::HaltedAlready, queue);
     }
-    let posted = ring::posted(ring, queue.consumed);
-    if Request::COUNT < posted {
-        return told(Answer::Overflow, halt(queue));
-    }
-    let count = needed(frame.len());
-    if posted < count {
-        ring::ask_event(ring);
-        return told(Answer::NoBuffers, queue);
-    }
-    settle(grants, window, ring, queue.consumed, count, frame)
+    put_running(queue, grants, window, ring, frame)
 }

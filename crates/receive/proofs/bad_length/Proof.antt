@@ -1,5 +1,4 @@
 -- `receive::bad_length` meets its contract: each test of the code is the definition's.
-use borrow.Author.Needs.{needs}
 use borrow.Author.Tests.{lt-ltb, le-ltb}
 use Rattle.receive.specs.Put.{badLength}
 use Rattle.receive.proofs.bad_length.Statement.{statement}

@@ -1,8 +1,7 @@
 -- `receive::refuse` meets its contract: the replies, then rsp_prod, as `refused` puts them together.
 use borrow.Author.Needs.{needs}
-use mathlib.Core.Path.{ap, _∙_}
+use mathlib.Core.Path.{_∙_}
 use native.Mathlib.Omega.{arith}
-use Rattle.netif.specs.declared.Queue.{Queue}
 use Rattle.receive.proofs.Calls.{refused}
 use Rattle.receive.proofs.refuse.Statement.{statement}
 use Rattle.receive.proofs.refuse.Tie as tie
@@ -28,8 +27,8 @@ same-length c = search needs
 returns : tie.Need-returns
 returns c =
     let a = c .before .before .before .before .before .before .before .before .before .before .before .before .args in
-    refused (a .old) (a .count) (a .ring .now) (omega arith) (omega arith) (c .before .before .before .before .before .before .before .before .before .before .ahead .result) (c .before .before .before .before .before .before .before .before .before .before .ahead .ensures) (c .told .result) (c .told .ensures .1 ∙ c .before .go-on .ensures)
-    (a .cause) (a .place) _ _ (c .before .before .before .before .finish .result) (c .before .before .before .before .before .before .before .before .reply-errors .ensures) (c .before .before .before .before .finish .ensures) (c .told .ensures .0)
+    refused (a .old) (a .count) (a .ring .now) (omega arith) (omega arith) (c .before .before .before .before .before .before .before .before .before .before .ahead .result) (c .before .before .before .before .before .before .before .before .before .before .ahead .ensures) (a .cause) (a .place) _ _ (c .before .before .before .before .finish .result) (c .told .result)
+    (c .before .before .before .before .before .before .before .before .reply-errors .ensures) (c .before .before .before .before .finish .ensures) (c .told .ensures .0) (c .told .ensures .1 ∙ c .before .go-on .ensures)
 
 pub refuse-spec : {M : Type 1} → statement M
 refuse-spec =

@@ -1,0 +1,68 @@
+-- `receive::settle_one` meets its contract: the page that the one request names, or that there is none, is the verdict on it.
+use borrow.Author.Needs.{needs}
+use Rattle.receive.proofs.Calls.{one-unfit, one-page, one-fit}
+use Rattle.receive.proofs.settle_one.Statement.{statement}
+use Rattle.receive.proofs.settle_one.Tie as tie
+
+at-requires : tie.Need-at-requires
+at-requires c κs = search needs
+
+page-of-requires : tie.Need-page-of-requires
+page-of-requires c κs = search needs
+
+enum-told : tie.Need-enum-told
+enum-told c = search needs
+
+refuse-requires : tie.Need-refuse-requires
+refuse-requires c κs = search needs
+
+enum-known-page : tie.Need-enum-known-page
+enum-known-page c = search needs
+
+deliver-one-requires : tie.Need-deliver-one-requires
+deliver-one-requires c κs =
+    let a = c .before .before .before .before .before .before .before .before .before .before .before .before .before .args in
+    let p = c .before .before .before .before .before .before .before .before .before .before .before .before .before .pre in
+    let q = c .before .before .before .before .before .before .at in
+    (p .0, p .1, one-page (a .grants .now) (a .window .now) (a .ring .now) (a .old) (q .result) (q .ensures) _ (rw (c .before .before .before .page .given .1) at (c .before .before .before .before .before .page-of .ensures)))
+
+same-length : tie.Need-same-length
+same-length c = search needs
+
+same-length-2 : tie.Need-same-length-2
+same-length-2 c = search needs
+
+returns : tie.Need-returns
+returns c =
+    let a = c .before .before .before .before .before .before .before .before .before .before .before .before .before .before .args in
+    let q = c .before .before .before .before .before .before .before .at in
+    one-unfit (a .grants .now) (a .window .now) (a .ring .now) (a .old) (q .result) (q .ensures) (rw (c .before .before .before .before .enum-told .given .1) at (c .before .before .before .before .before .before .page-of .ensures)) (a .frame .now) _ _ _ (c .before .before .refuse .ensures (a .window .now))
+
+same-length-3 : tie.Need-same-length-3
+same-length-3 c = search needs
+
+same-length-4 : tie.Need-same-length-4
+same-length-4 c = search needs
+
+returns-2 : tie.Need-returns-2
+returns-2 c =
+    let a = c .before .before .before .before .before .before .before .before .before .before .before .before .before .before .before .before .before .before .args in
+    let q = c .before .before .before .before .before .before .before .before .before .before .before .at in
+    one-fit (a .grants .now) (a .window .now) (a .ring .now) (a .old) (q .result) (q .ensures) _ (rw (c .before .before .before .before .before .before .before .before .page .given .1) at (c .before .before .before .before .before .before .before .before .before .before .page-of .ensures)) (a .frame .now) _ _ _ (c .before .before .before .before .deliver-one .ensures)
+
+pub settle-one-spec : {M : Type 1} → statement M
+settle-one-spec =
+    tie.close
+    (tie.spec
+    at-requires
+    page-of-requires
+    enum-told
+    refuse-requires
+    enum-known-page
+    deliver-one-requires
+    same-length
+    same-length-2
+    returns
+    same-length-3
+    same-length-4
+    returns-2)
