@@ -5,13 +5,12 @@ use mathlib.Core.Bool.{Bool, true, false}
 use Prim.Native.Nat.{ℕ, _+_, _-_, _≤_}
 use lib.ListN.{length, take}
 use Rattle.words.specs.Word.{splice}
-use Rattle.ring.specs.Ring.{slotAt, slotsFrom}
+use Rattle.ring.specs.Ring.{slotsFrom}
 use Rattle.netif.specs.Slot.{Slot, slotWidth, slotCount, size}
 use Rattle.netif.specs.Decode.{dataOf}
 use Rattle.netif.specs.Grammar.{within}
 use Rattle.netif.specs.Divide.{Cut, whole, beginning, misshapen, scan, divide, onCut}
 use Rattle.netif.specs.Packet.{firstOf, laterOf, sizes, gsoSizeOf, gsoTypeOf}
-use Rattle.netif.specs.declared.DataSlot.{DataSlot}
 use Rattle.netif.specs.declared.divider.Shape.{Shape}
 use Rattle.netif.specs.declared.divider.Shape.the-variants as shape
 use Rattle.netif.specs.declared.divider.Extras.{Extras}
@@ -69,9 +68,8 @@ module _ (page : List ℕ) (first posted : ℕ) where
     pub sum : r .sum ≡ sizes (slotsFrom slotWidth slotCount page (first + (extras + 1)) (r .count))
     pub table : after ≡ splice before 1 (map size (slotsFrom slotWidth slotCount page (first + (extras + 1)) (r .count)))
 
-  -- where the first slot and the extras were read and data slots may follow
-  pub record AfterExtras (head : DataSlot) (more : Bool) (r : Extras) : Type 0 where
-    pub isFirst : head ≡ dataOf (slotAt slotWidth slotCount page first)
+  -- where the extras were read and data slots may follow
+  pub record AfterExtras (more : Bool) (r : Extras) : Type 0 where
     pub few : r .count + 1 ≤ posted
     pub limit : within 1 (r .count) ≡ true
     pub rest : divide (slotsFrom slotWidth slotCount page first posted) ≡ scan (behind (r .count + 1)) 1 (r .count) false more

@@ -80,6 +80,18 @@ pub fn is_alone(page: &[u8], first: u32) -> bool
     !extra
 }
 
+// Extras as they were read, and how far they came.
+fn extras_so_far(shape: Shape, count: u32, gso_size: u16, gso_type: u8) -> Extras
+    ensures { λ r. ⌜ r ≡ record { shape = shape; count = count; «gso_size» = «gso_size»; «gso_type» = «gso_type» } ⌝ }
+{
+    Extras {
+        shape,
+        count,
+        gso_size,
+        gso_type,
+    }
+}
+
 // The extras behind the first slot, if it announced any; more says whether it announced more data.
 fn read_extras(page: &[u8], first: u32, posted: u32, announced: bool, more: bool) -> Extras
     requires { ⌜ (length (now page) ≡ pageSize) × (1 ≤ posted) × (posted ≤ 256) ⌝ }
@@ -92,41 +104,21 @@ fn read_extras(page: &[u8], first: u32, posted: u32, announced: bool, more: bool
     let need = 1 + owed_by(more);
     while another {
         if !fits(need, count + 1) {
-            return Extras {
-                shape: Shape::Misshapen,
-                count,
-                gso_size,
-                gso_type,
-            };
+            return extras_so_far(Shape::Misshapen, count, gso_size, gso_type);
         }
         if count + 1 == posted {
-            return Extras {
-                shape: Shape::Beginning,
-                count,
-                gso_size,
-                gso_type,
-            };
+            return extras_so_far(Shape::Beginning, count, gso_size, gso_type);
         }
         let extra = Extra::at(page, ring::ahead(first, count + 1));
         if extra.kind != 1 {
-            return Extras {
-                shape: Shape::Misshapen,
-                count,
-                gso_size,
-                gso_type,
-            };
+            return extras_so_far(Shape::Misshapen, count, gso_size, gso_type);
         }
         gso_size = extra.gso_size;
         gso_type = extra.gso_type;
         another = extra.another_follows();
         count += 1;
     }
-    Extras {
-        shape: Shape::Whole,
-        count,
-        gso_size,
-        gso_type,
-    }
+    extras_so_far(Shape::Whole, count, gso_size, gso_type)
 }
 
 // The data slots behind the extras, if the first slot announced any. Each one's size goes into the table as it is added up, so
@@ -186,12 +178,11 @@ fn read_later(
     }
 }
 
-// The packet whose first slot and extras were read.
+// The packet whose extras were read. The first slot's fields are read when all slots are there: a waiting packet needs its flags only.
 fn read_rest(
     page: &[u8],
     first: u32,
     posted: u32,
-    head: DataSlot,
     extras: Extras,
     more: bool,
     sizes: &mut [u16; 18],
@@ -200,7 +191,7 @@ fn read_rest(
         (length (now page) ≡ pageSize)
         × (posted ≤ 256)
         × (length (now sizes) ≡ 18)
-        × AfterExtras (now page) first posted head more extras ⌝ }
+        × AfterExtras (now page) first posted more extras ⌝ }
     ensures { λ r. ⌜
         FrontRead (slotsFrom slotWidth slotCount (now (page .entry)) first posted) (now (sizes .entry))
         (now (sizes .exit)) r ⌝ }
@@ -211,7 +202,7 @@ fn read_rest(
         Shape::Misshapen => Front::Misshapen,
         Shape::Beginning => Front::Beginning,
         Shape::Whole => Front::Whole(Outline {
-            head,
+            head: DataSlot::at(page, first),
             slots: later.count + 1 + extras.count,
             extras: extras.count,
             later: later.sum,
@@ -236,6 +227,6 @@ pub fn read(page: &[u8], first: u32, posted: u32, sizes: &mut [u16; 18]) -> Fron
     match shape {
         Shape::Misshapen => Front::Misshapen,
         Shape::Beginning => Front::Beginning,
-        Shape::Whole => read_rest(page, first, posted, head, extras, more, sizes),
+        Shape::Whole => read_rest(page, first, posted, extras, more, sizes),
     }
 }

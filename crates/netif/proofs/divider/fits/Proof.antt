@@ -3,14 +3,10 @@ use mathlib.Core.Path.{refl}
 use Rattle.netif.specs.Grammar.{within}
 use Rattle.netif.proofs.divider.fits.Statement.{statement}
 use Rattle.netif.proofs.divider.fits.Tie as tie
-use Rattle.netif.proofs.divider.fits.Reads as reads
-use Rattle.netif.proofs.divider.fits.Lts as lts
 
--- src/divider.rt:59:5
 add-result : tie.Need-add-result
 add-result c = search needs
 
--- src/divider.rt:55:1
 returns : tie.Need-returns
 unfolding within
 returns c = refl

@@ -5,32 +5,22 @@ use Rattle.netif.proofs.Loop.{more-bit, follows-bit}
 use borrow.Author.Needs.{needs}
 use Rattle.netif.proofs.divider.is_alone.Statement.{statement}
 use Rattle.netif.proofs.divider.is_alone.Tie as tie
-use Rattle.netif.proofs.divider.is_alone.Reads as reads
-use Rattle.netif.proofs.divider.is_alone.Lts as lts
-use Rattle.netif.proofs.DataSlot.at.Reads as at-reads
-use Rattle.netif.proofs.DataSlot.extra_follows.Reads as extra-follows-reads
-use Rattle.netif.proofs.DataSlot.more_data.Reads as more-data-reads
 
--- src/divider.rt:74:9
 at-requires : tie.Need-at-requires
 at-requires c κs = search needs
 
--- src/divider.rt:75:9
 more-data-requires : tie.Need-more-data-requires
 more-data-requires c κs = search needs
 
--- src/divider.rt:76:9
 extra-follows-requires : tie.Need-extra-follows-requires
 extra-follows-requires c κs = search needs
 
--- src/divider.rt:78:9
 returns : tie.Need-returns
 unfolding alone
 returns c =
     let m = sym (c .before .before .more-data .ensures ∙ more-bit _ (c .before .before .before .at .result) (c .before .before .before .at .ensures)) in
     rw (m ∙ c .if1 .taken)
 
--- src/divider.rt:70:1
 returns-2 : tie.Need-returns-2
 unfolding alone
 returns-2 c =

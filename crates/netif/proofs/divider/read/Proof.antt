@@ -3,43 +3,28 @@ use borrow.Author.Needs.{needs}
 use Rattle.netif.proofs.Reading.{read-beginning, read-misshapen, extras-read}
 use Rattle.netif.proofs.divider.read.Statement.{statement}
 use Rattle.netif.proofs.divider.read.Tie as tie
-use Rattle.netif.proofs.divider.read.Reads as reads
-use Rattle.netif.proofs.divider.read.Lts as lts
-use Rattle.netif.proofs.DataSlot.at.Reads as at-reads
-use Rattle.netif.proofs.DataSlot.extra_follows.Reads as extra-follows-reads
-use Rattle.netif.proofs.DataSlot.more_data.Reads as more-data-reads
-use Rattle.netif.proofs.divider.read_extras.Reads as read-extras-reads
-use Rattle.netif.proofs.divider.read_rest.Reads as read-rest-reads
 
--- src/divider.rt:154:9
 at-requires : tie.Need-at-requires
 at-requires c κs = search needs
 
--- src/divider.rt:155:9
 more-data-requires : tie.Need-more-data-requires
 more-data-requires c κs = search needs
 
--- src/divider.rt:156:51
 extra-follows-requires : tie.Need-extra-follows-requires
 extra-follows-requires c κs = search needs
 
--- src/divider.rt:156:9
 read-extras-requires : tie.Need-read-extras-requires
 read-extras-requires c κs = search needs
 
--- src/divider.rt:159:29
 enum-told : tie.Need-enum-told
 enum-told c = search needs
 
--- src/divider.rt:160:29
 enum-told-2 : tie.Need-enum-told-2
 enum-told-2 c = search needs
 
--- src/divider.rt:161:76
 enum-told-3 : tie.Need-enum-told-3
 enum-told-3 c = search needs
 
--- src/divider.rt:161:25
 read-rest-requires : tie.Need-read-rest-requires
 read-rest-requires c κs =
     let s = c .before .before .before .before .before .before .before .before in
@@ -52,7 +37,6 @@ read-rest-requires c κs =
       search needs,
       s .pre .3,
       record {
-        isFirst = h .ensures;
         few = e .ensures .few;
         limit = e .ensures .limit;
         rest = extras-read (a .page .now) (a .first) (a .posted) (h .result) (x .result) (m .result) (e .result) (s .pre .1) (h .ensures) (x .ensures) (m .ensures) (e .ensures) _ (c .before .enum-told3 .given .1);
@@ -61,7 +45,6 @@ read-rest-requires c κs =
       },
     )
 
--- src/divider.rt:150:1
 returns : tie.Need-returns
 returns c =
     let s = c .before .before .before .before .before .before .before in
@@ -72,7 +55,6 @@ returns c =
     let e = c .before .before .read-extras in
     read-misshapen _ _ _ (extras-read (a .page .now) (a .first) (a .posted) (h .result) (x .result) (m .result) (e .result) (s .pre .1) (h .ensures) (x .ensures) (m .ensures) (e .ensures) _ (c .enum-told .given .1))
 
--- src/divider.rt:150:1
 returns-2 : tie.Need-returns-2
 returns-2 c =
     let s = c .before .before .before .before .before .before .before in
@@ -83,7 +65,6 @@ returns-2 c =
     let e = c .before .before .read-extras in
     read-beginning _ _ _ (extras-read (a .page .now) (a .first) (a .posted) (h .result) (x .result) (m .result) (e .result) (s .pre .1) (h .ensures) (x .ensures) (m .ensures) (e .ensures) _ (c .enum-told2 .given .1))
 
--- src/divider.rt:150:1
 returns-3 : tie.Need-returns-3
 returns-3 c = search needs
 

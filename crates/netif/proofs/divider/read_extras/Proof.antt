@@ -1,12 +1,12 @@
 -- `divider::read_extras` meets its contract. The invariant: what the scan makes of all slots behind the first, it makes of those
 -- that are left, behind the extras counted so far. Each way out is one law of `Loop`.
 use mathlib.Core.Path.{_≡_, refl, sym, ap, _∙_}
-use mathlib.Core.Bool.{Bool, true, false}
-use Prim.Native.Nat.{ℕ, _+_, _-_, _≤_, _<_}
+use mathlib.Core.Bool.{true, false}
+use Prim.Native.Nat.{_+_, _-_, _≤_, _<_}
 use native.Mathlib.Omega.{arith}
 use borrow.Author.Needs.{needs}
 use borrow.Author.Tests.{not-true, not-false}
-use Rattle.ring.specs.Ring.{slotAt, slotsFrom}
+use Rattle.ring.specs.Ring.{slotsFrom}
 use Rattle.netif.specs.Grammar.{within}
 use Rattle.netif.specs.Divide.{owed, scan}
 use Rattle.netif.specs.Packet.{gsoSizeOf, gsoTypeOf}
@@ -15,13 +15,6 @@ use Rattle.netif.proofs.Within.{within-one, within-down}
 use Rattle.netif.proofs.Loop.{extra-closed, extra-end, extra-bad, extra-next, behind-none, behind-more, gso-size-next, gso-type-next, kind-other, kind-extra, another-bit, gso-size-field, gso-type-field}
 use Rattle.netif.proofs.divider.read_extras.Statement.{statement}
 use Rattle.netif.proofs.divider.read_extras.Tie as tie
-use Rattle.netif.proofs.divider.read_extras.Reads as reads
-use Rattle.netif.proofs.divider.read_extras.Lts as lts
-use Rattle.netif.proofs.Extra.another_follows.Reads as another-follows-reads
-use Rattle.netif.proofs.Extra.at.Reads as at-reads
-use Rattle.netif.proofs.divider.fits.Reads as fits-reads
-use Rattle.netif.proofs.divider.owed_by.Reads as owed-by-reads
-use Rattle.ring.proofs.ahead.Reads as ahead-reads
 
 abbrev Inv-loop : tie.InvT-loop
 Inv-loop page first posted announced more count₀ another₀ gso-size₀ gso-type₀ need count another gso-size gso-type =
@@ -34,103 +27,96 @@ Inv-loop page first posted announced more count₀ another₀ gso-size₀ gso-ty
 abbrev μ-loop : tie.MeasureT-loop
 μ-loop page first posted announced more count₀ another₀ gso-size₀ gso-type₀ need count another gso-size gso-type = posted - count
 
--- src/divider.rt:78:20
 owed-by-requires : tie.Need-owed-by-requires Inv-loop μ-loop
 owed-by-requires c κs = search needs
 
--- src/divider.rt:78:16
 add-need : tie.Need-add-need Inv-loop μ-loop
 add-need c = search needs
 
--- src/divider.rt:79:5
 loop-holds : tie.Need-loop-holds Inv-loop μ-loop
 loop-holds c = (refl, omega arith, within-one, refl, refl)
 
--- src/divider.rt:80:24
 add-fits : tie.Need-add-fits Inv-loop μ-loop
 add-fits c = search needs
 
--- src/divider.rt:80:13
 fits-requires : tie.Need-fits-requires Inv-loop μ-loop
 fits-requires c κs = search needs
 
--- src/divider.rt:81:13
+extras-so-far-requires : tie.Need-extras-so-far-requires Inv-loop μ-loop
+extras-so-far-requires c κs = search needs
+
 returns : tie.Need-returns Inv-loop μ-loop
 returns c =
-    let a = c .before .before .before .before .before .before .args in
-    let l = c .before .before .before .loop in
-    let need : 1 + c .before .before .before .before .owed-by .result ≡ 1 + owed (a .more) = ap (1 +_) (c .before .before .before .before .owed-by .ensures .0) in
-    let w : within (1 + owed (a .more)) (l .count + 1) ≡ false = rw need at (sym (c .before .fits2 .ensures) ∙ not-true _ (c .if1 .taken)) in
-    record {
-      few = l .inv .1;
-      limit = l .inv .2;
-      rest = l .inv .0 ∙ ap (λ b. scan (behind (a .page .now) (a .first) (a .posted) (l .count + 1)) 1 (l .count) b (a .more)) (c .before .before .loop-test .taken) ∙ extra-closed (behind (a .page .now) (a .first) (a .posted) (l .count + 1)) 1 (l .count) (a .more) w;
-      gsoSize = l .inv .3;
-      gsoType = l .inv .4;
-    }
-
--- src/divider.rt:83:12
-add-if2 : tie.Need-add-if2 Inv-loop μ-loop
-add-if2 c = search needs
-
--- src/divider.rt:84:13
-returns-2 : tie.Need-returns-2 Inv-loop μ-loop
-returns-2 c =
     let a = c .before .before .before .before .before .before .before .args in
     let l = c .before .before .before .before .loop in
     let need : 1 + c .before .before .before .before .before .owed-by .result ≡ 1 + owed (a .more) = ap (1 +_) (c .before .before .before .before .before .owed-by .ensures .0) in
-    let w : within (1 + owed (a .more)) (l .count + 1) ≡ true = rw need at (sym (c .before .before .fits2 .ensures) ∙ not-false _ (c .before .if1 .left)) in
-    record {
+    let w : within (1 + owed (a .more)) (l .count + 1) ≡ false = rw need at (sym (c .before .before .fits2 .ensures) ∙ not-true _ (c .before .if1 .taken)) in
+    rw (c .extras-so-far .ensures) (record {
       few = l .inv .1;
       limit = l .inv .2;
-      rest = l .inv .0 ∙ ap (λ b. scan (behind (a .page .now) (a .first) (a .posted) (l .count + 1)) 1 (l .count) b (a .more)) (c .before .before .before .loop-test .taken) ∙ extra-end _ 1 (l .count) (a .more) w (behind-none (a .page .now) (a .first) (a .posted) (l .count + 1) (c .if2 .taken));
+      rest = l .inv .0 ∙ ap (λ b. scan (behind (a .page .now) (a .first) (a .posted) (l .count + 1)) 1 (l .count) b (a .more)) (c .before .before .before .loop-test .taken) ∙ extra-closed (behind (a .page .now) (a .first) (a .posted) (l .count + 1)) 1 (l .count) (a .more) w;
       gsoSize = l .inv .3;
       gsoType = l .inv .4;
-    }
+    })
 
--- src/divider.rt:86:56
+add-if2 : tie.Need-add-if2 Inv-loop μ-loop
+add-if2 c = search needs
+
+extras-so-far-requires-2 : tie.Need-extras-so-far-requires-2 Inv-loop μ-loop
+extras-so-far-requires-2 c κs = search needs
+
+returns-2 : tie.Need-returns-2 Inv-loop μ-loop
+returns-2 c =
+    let a = c .before .before .before .before .before .before .before .before .args in
+    let l = c .before .before .before .before .before .loop in
+    let need : 1 + c .before .before .before .before .before .before .owed-by .result ≡ 1 + owed (a .more) = ap (1 +_) (c .before .before .before .before .before .before .owed-by .ensures .0) in
+    let w : within (1 + owed (a .more)) (l .count + 1) ≡ true = rw need at (sym (c .before .before .before .fits2 .ensures) ∙ not-false _ (c .before .before .if1 .left)) in
+    rw (c .extras-so-far2 .ensures) (record {
+      few = l .inv .1;
+      limit = l .inv .2;
+      rest = l .inv .0 ∙ ap (λ b. scan (behind (a .page .now) (a .first) (a .posted) (l .count + 1)) 1 (l .count) b (a .more)) (c .before .before .before .before .loop-test .taken) ∙ extra-end _ 1 (l .count) (a .more) w (behind-none (a .page .now) (a .first) (a .posted) (l .count + 1) (c .before .if2 .taken));
+      gsoSize = l .inv .3;
+      gsoType = l .inv .4;
+    })
+
 add-ahead : tie.Need-add-ahead Inv-loop μ-loop
 add-ahead c = search needs
 
--- src/divider.rt:86:37
 ahead-requires : tie.Need-ahead-requires Inv-loop μ-loop
 ahead-requires c κs = search needs
 
--- src/divider.rt:86:13
 at-requires : tie.Need-at-requires Inv-loop μ-loop
 at-requires c κs = search needs
 
--- src/divider.rt:88:13
+extras-so-far-requires-3 : tie.Need-extras-so-far-requires-3 Inv-loop μ-loop
+extras-so-far-requires-3 c κs = search needs
+
 returns-3 : tie.Need-returns-3 Inv-loop μ-loop
 returns-3 c =
-    let a = c .before .before .before .before .before .before .before .before .before .before .before .args in
-    let l = c .before .before .before .before .before .before .before .before .loop in
-    let need : 1 + c .before .before .before .before .before .before .before .before .before .owed-by .result ≡ 1 + owed (a .more) = ap (1 +_) (c .before .before .before .before .before .before .before .before .before .owed-by .ensures .0) in
-    let w : within (1 + owed (a .more)) (l .count + 1) ≡ true = rw need at (sym (c .before .before .before .before .before .before .fits2 .ensures) ∙ not-false _ (c .before .before .before .before .before .if1 .left)) in
-    let n = c .before .before .before .ahead in
-    record {
+    let a = c .before .before .before .before .before .before .before .before .before .before .before .before .args in
+    let l = c .before .before .before .before .before .before .before .before .before .loop in
+    let need : 1 + c .before .before .before .before .before .before .before .before .before .before .owed-by .result ≡ 1 + owed (a .more) = ap (1 +_) (c .before .before .before .before .before .before .before .before .before .before .owed-by .ensures .0) in
+    let w : within (1 + owed (a .more)) (l .count + 1) ≡ true = rw need at (sym (c .before .before .before .before .before .before .before .fits2 .ensures) ∙ not-false _ (c .before .before .before .before .before .before .if1 .left)) in
+    let n = c .before .before .before .before .ahead in
+    rw (c .extras-so-far3 .ensures) (record {
       few = l .inv .1;
       limit = l .inv .2;
-      rest = l .inv .0 ∙ ap (λ b. scan (behind (a .page .now) (a .first) (a .posted) (l .count + 1)) 1 (l .count) b (a .more)) (c .before .before .before .before .before .before .before .loop-test .taken)
-          ∙ extra-bad _ 1 (l .count) (a .more) w _ _ (behind-more (a .page .now) (a .first) (a .posted) (n .result) (l .count + 1) (omega (arith, c .before .before .before .before .if2 .left)) (n .ensures))
-          (kind-other _ (c .before .before .at .result) (c .before .before .at .ensures) (c .if3 .taken));
+      rest = l .inv .0 ∙ ap (λ b. scan (behind (a .page .now) (a .first) (a .posted) (l .count + 1)) 1 (l .count) b (a .more)) (c .before .before .before .before .before .before .before .before .loop-test .taken)
+          ∙ extra-bad _ 1 (l .count) (a .more) w _ _ (behind-more (a .page .now) (a .first) (a .posted) (n .result) (l .count + 1) (omega (arith, c .before .before .before .before .before .if2 .left)) (n .ensures))
+          (kind-other _ (c .before .before .before .at .result) (c .before .before .before .at .ensures) (c .before .if3 .taken));
       gsoSize = l .inv .3;
       gsoType = l .inv .4;
-    }
+    })
 
--- src/divider.rt:92:9
 another-follows-requires : tie.Need-another-follows-requires Inv-loop μ-loop
 another-follows-requires c κs = search needs
 
--- src/divider.rt:93:9
 add-count : tie.Need-add-count Inv-loop μ-loop
 add-count c = search needs
 
--- src/divider.rt:79:5
 loop-less : tie.Need-loop-less Inv-loop μ-loop
 loop-less c = search needs
 
--- src/divider.rt:79:5
 loop-again : tie.Need-loop-again Inv-loop μ-loop
 loop-again c =
     let a = c .before .before .before .before .before .before .before .before .before .before .before .before .args in
@@ -149,18 +135,20 @@ loop-again c =
       gso-type-field _ (r .result) (r .ensures) ∙ sym (gso-type-next (a .page .now) (a .first) (a .posted) (n .result) (l .count) k (n .ensures)),
     )
 
--- src/divider.rt:70:1
+extras-so-far-requires-4 : tie.Need-extras-so-far-requires-4 Inv-loop μ-loop
+extras-so-far-requires-4 c κs = search needs
+
 returns-4 : tie.Need-returns-4 Inv-loop μ-loop
 returns-4 c =
-    let a = c .before .before .before .before .args in
-    let l = c .before .loop in
-    record {
+    let a = c .before .before .before .before .before .args in
+    let l = c .before .before .loop in
+    rw (c .extras-so-far4 .ensures) (record {
       few = l .inv .1;
       limit = l .inv .2;
-      rest = l .inv .0 ∙ ap (λ b. scan (behind (a .page .now) (a .first) (a .posted) (l .count + 1)) 1 (l .count) b (a .more)) (c .loop-test .left);
+      rest = l .inv .0 ∙ ap (λ b. scan (behind (a .page .now) (a .first) (a .posted) (l .count + 1)) 1 (l .count) b (a .more)) (c .before .loop-test .left);
       gsoSize = l .inv .3;
       gsoType = l .inv .4;
-    }
+    })
 
 pub read-extras-spec : {M : Type 1} → statement M
 read-extras-spec =
@@ -173,15 +161,19 @@ read-extras-spec =
     loop-holds
     add-fits
     fits-requires
+    extras-so-far-requires
     returns
     add-if2
+    extras-so-far-requires-2
     returns-2
     add-ahead
     ahead-requires
     at-requires
+    extras-so-far-requires-3
     returns-3
     another-follows-requires
     add-count
     loop-less
     loop-again
+    extras-so-far-requires-4
     returns-4)

@@ -2,8 +2,8 @@
 -- are left, behind the later data slots counted so far; their sizes are in the table and in the sum. Each way out is one law of `Loop`.
 use mathlib.Core.Path.{_≡_, refl, sym, ap, _∙_}
 use mathlib.Core.List.{map}
-use mathlib.Core.Bool.{Bool, true, false}
-use Prim.Native.Nat.{ℕ, _+_, _-_, _*_, _≤_, _<_}
+use mathlib.Core.Bool.{true, false}
+use Prim.Native.Nat.{_+_, _-_, _*_, _≤_, _<_}
 use native.Mathlib.Omega.{arith}
 use lib.ListN.{length, set, length-set}
 use borrow.Author.Needs.{needs}
@@ -20,13 +20,6 @@ use Rattle.netif.proofs.Within.{within-datas}
 use Rattle.netif.proofs.Loop.{data-closed, data-end, data-bad, data-next, nothing-owed, behind-none, behind-more, sum-next, column-next, more-bit, follows-bit, size-field}
 use Rattle.netif.proofs.divider.read_later.Statement.{statement}
 use Rattle.netif.proofs.divider.read_later.Tie as tie
-use Rattle.netif.proofs.divider.read_later.Reads as reads
-use Rattle.netif.proofs.divider.read_later.Lts as lts
-use Rattle.netif.proofs.DataSlot.at.Reads as at-reads
-use Rattle.netif.proofs.DataSlot.extra_follows.Reads as extra-follows-reads
-use Rattle.netif.proofs.DataSlot.more_data.Reads as more-data-reads
-use Rattle.netif.proofs.divider.fits.Reads as fits-reads
-use Rattle.ring.proofs.ahead.Reads as ahead-reads
 
 abbrev Inv-loop : tie.InvT-loop
 Inv-loop page first posted extras announced sizes₀ count₀ sum₀ more₀ sizes count sum more =
@@ -41,7 +34,6 @@ Inv-loop page first posted extras announced sizes₀ count₀ sum₀ more₀ siz
 abbrev μ-loop : tie.MeasureT-loop
 μ-loop page first posted extras announced sizes₀ count₀ sum₀ more₀ sizes count sum more = posted - count
 
--- src/divider.rt:107:5
 loop-holds : tie.Need-loop-holds Inv-loop μ-loop
 loop-holds c =
     let a = c .before .args in (
@@ -54,15 +46,12 @@ loop-holds c =
       c .before .pre .4,
     )
 
--- src/divider.rt:108:18
 add-fits : tie.Need-add-fits Inv-loop μ-loop
 add-fits c = search needs
 
--- src/divider.rt:108:13
 fits-requires : tie.Need-fits-requires Inv-loop μ-loop
 fits-requires c κs = search needs
 
--- src/divider.rt:109:13
 returns : tie.Need-returns Inv-loop μ-loop
 returns c =
     let a = c .before .before .before .before .before .args in
@@ -77,15 +66,12 @@ returns c =
       table = l .inv .4;
     }
 
--- src/divider.rt:111:17
 add-i : tie.Need-add-i Inv-loop μ-loop
 add-i c = search needs
 
--- src/divider.rt:111:17
 add-i-2 : tie.Need-add-i-2 Inv-loop μ-loop
 add-i-2 c = search needs
 
--- src/divider.rt:113:13
 returns-2 : tie.Need-returns-2 Inv-loop μ-loop
 returns-2 c =
     let a = c .before .before .before .before .before .before .args in
@@ -100,19 +86,15 @@ returns-2 c =
       table = l .inv .4;
     }
 
--- src/divider.rt:115:39
 ahead-requires : tie.Need-ahead-requires Inv-loop μ-loop
 ahead-requires c κs = search needs
 
--- src/divider.rt:115:13
 at-requires : tie.Need-at-requires Inv-loop μ-loop
 at-requires c κs = search needs
 
--- src/divider.rt:116:12
 extra-follows-requires : tie.Need-extra-follows-requires Inv-loop μ-loop
 extra-follows-requires c κs = search needs
 
--- src/divider.rt:117:13
 returns-3 : tie.Need-returns-3 Inv-loop μ-loop
 returns-3 c =
     let a = c .before .before .before .before .before .before .before .before .before .before .args in
@@ -131,43 +113,33 @@ returns-3 c =
       table = l .inv .4;
     }
 
--- src/divider.rt:119:16
 add-sizes : tie.Need-add-sizes Inv-loop μ-loop
 add-sizes c = search needs
 
--- src/divider.rt:119:15
 cast-sizes : tie.Need-cast-sizes Inv-loop μ-loop
 cast-sizes c = search needs
 
--- src/divider.rt:119:9
 mul-sizes : tie.Need-mul-sizes Inv-loop μ-loop
 mul-sizes c = search needs
 
--- src/divider.rt:119:9
 element-write-sizes : tie.Need-element-write-sizes Inv-loop μ-loop
 element-write-sizes c = omega (arith, within-datas (c .before .before .before .before .before .before .before .before .loop .count + 2) (c .before .before .before .before .before .before .before .before .before .before .args .extras) (sym (c .before .before .before .before .before .before .fits2 .ensures) ∙ not-false _ (c .before .before .before .before .before .if1 .left)))
 
--- src/divider.rt:120:16
 cast-sum : tie.Need-cast-sum Inv-loop μ-loop
 cast-sum c = search needs
 
--- src/divider.rt:120:9
 add-sum : tie.Need-add-sum Inv-loop μ-loop
 add-sum c = search needs
 
--- src/divider.rt:121:9
 more-data-requires : tie.Need-more-data-requires Inv-loop μ-loop
 more-data-requires c κs = search needs
 
--- src/divider.rt:122:9
 add-count : tie.Need-add-count Inv-loop μ-loop
 add-count c = search needs
 
--- src/divider.rt:107:5
 loop-less : tie.Need-loop-less Inv-loop μ-loop
 loop-less c = search needs
 
--- src/divider.rt:107:5
 loop-again : tie.Need-loop-again Inv-loop μ-loop
 loop-again c =
     let a = c .before .before .before .before .before .before .before .before .before .before .before .before .args in
@@ -193,7 +165,6 @@ loop-again c =
       simp length-set (omega arith),
     )
 
--- src/divider.rt:100:1
 returns-4 : tie.Need-returns-4 Inv-loop μ-loop
 returns-4 c =
     let a = c .before .before .before .args in
