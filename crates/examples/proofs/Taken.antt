@@ -1,21 +1,21 @@
 -- On a fresh queue one packet of two slots is published in two publications, the call between them is told waiting, and the call
 -- after both takes the packet: by computation.
 use mathlib.Core.Path.{_≡_, refl}
-use mathlib.Core.List.{List, [], _∷_}
+use mathlib.Core.List.{List, []}
 use Prim.Native.Nat.{ℕ, zero, suc, _+_, _<_}
 use native.Mathlib.Omega.{arith}
 use lib.Dec.{lit<, lit≤}
 use Rattle.words.specs.Word.{u16At, u32At, bit, u16Bytes, u32Bytes, splice}
 use Rattle.words.proofs.Word.{bytes-of}
 use Rattle.ring.specs.Ring.{wadd, wsub, withReqEvent, withRspProd, posted, asking, notify, slotPlace, slotAt}
-use Rattle.grant.specs.Grant.{hasWord, word, granted, writable, pageOf, inRange, usable, fitTransmit, fitReceive}
+use Rattle.grant.specs.Grant.{hasWord, word, granted, writable, pageOf, inRange, usable, fitTransmit}
 use Rattle.netif.specs.Slot.{gref, offset, flags, ident, size, moreData, extraFollows, isExtra, anotherExtra, gsoSize, gsoType, transmitReply}
 use Rattle.netif.specs.Grammar.{within}
 use Rattle.netif.specs.Divide.{divide}
 use Rattle.netif.specs.Report.{goOn}
 use Rattle.transmit.specs.Judge.{totalOf, ownPart, parts, judgeSizes, judgeSlot, judgeSlots, judge, dataReply, extraReply, repliesOf}
 use Rattle.transmit.specs.Take.{waitingSlots, doneReport, repliesTo, repliedPage, spoiled, handedOver, look, transmitTake}
-use Rattle.transmit.specs.Sequence.{Fresh, Published, afterPublication, callAt, outcomeOf, answerOf, afterCall, Sequence}
+use Rattle.transmit.specs.Sequence.{Fresh, afterPublication, callAt, outcomeOf, answerOf, afterCall, Sequence}
 use Rattle.examples.specs.Calls.{zeros, two, ringPage, grants, window}
 use Rattle.examples.specs.Taken.{OneTaken}
 

@@ -1,6 +1,5 @@
 // The C interface of the two calls.
 ghost use mathlib.Core.Path.{_≡_};
-ghost use mathlib.Core.Bool.{cond};
 ghost use Rattle.netif.specs.Report.{flag, plain, spoiledReport, reportOf};
 ghost use Rattle.netif.specs.declared.Answer.the-variants.{Done};
 ghost use Rattle.tollmeander.specs.Interface.{queueOf, markAfter, reportWords, TransmitLeaves, ReceiveLeaves};

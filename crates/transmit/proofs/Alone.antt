@@ -1,6 +1,6 @@
 -- A packet of one slot: its outline, its verdict and its frame are those of the slot alone.
-use mathlib.Core.Path.{_≡_, refl, sym, ap, _∙_}
-use mathlib.Core.List.{List, [], _∷_, _++_, append-nil}
+use mathlib.Core.Path.{_≡_, sym, ap, _∙_}
+use mathlib.Core.List.{List, append-nil}
 use mathlib.Core.Bool.{true}
 use Prim.Native.Nat.{ℕ, suc, _+_, _-_, _≤_}
 use native.Mathlib.Omega.{arith}
@@ -8,7 +8,7 @@ use lib.ListN.{take}
 use Rattle.ring.specs.Ring.{slotAt, slotsFrom}
 use Rattle.grant.specs.Grant.{pagePart}
 use Rattle.grant.specs.Found.{sourceOf}
-use Rattle.netif.specs.Slot.{Slot, gref, offset, size}
+use Rattle.netif.specs.Slot.{gref, offset, size}
 use Rattle.netif.specs.Decode.{dataOf}
 use Rattle.netif.specs.Divide.{whole, divide, alone}
 use Rattle.netif.proofs.Reading.{alone-whole}

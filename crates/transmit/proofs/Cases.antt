@@ -8,7 +8,7 @@ use lib.ListN.{length, take, getD, length-append, length-take, length-drop, leng
 use lib.Dec.{eqb}
 use borrow.Author.Tests.{eq-eqb, ne-eqb, lt-ltb, le-ltb}
 use Rattle.words.specs.Word.{u16Bytes, u32Bytes}
-use Rattle.ring.specs.Ring.{wadd, reqProd, posted, asking, withReqEvent, withRspProd, slotAt, slotsFrom, withReplies}
+use Rattle.ring.specs.Ring.{wadd, reqProd, posted, asking, withReqEvent, withRspProd, slotAt, slotsFrom}
 use Rattle.netif.specs.Slot.{Slot, slotWidth, slotCount, transmitReply}
 use Rattle.netif.specs.Divide.{whole, beginning, misshapen, divide, onCut}
 use Rattle.netif.specs.declared.Queue.{Queue}

@@ -10,19 +10,19 @@ use lib.Seq.{take-at}
 use lib.Dec.{lit<}
 use borrow.Author.Tests.{le-ltb}
 use Rattle.words.specs.Word.{Bytes}
-use Rattle.ring.specs.Ring.{wrap, wadd, reqProd, posted, asking, slotAt, slotsFrom}
+use Rattle.ring.specs.Ring.{wrap, wadd, reqProd, posted, asking, slotsFrom}
 use Rattle.netif.specs.Slot.{Slot, slotWidth, slotCount, okay, error}
 use Rattle.netif.specs.Grammar.{Packet, joinAll}
 use Rattle.netif.specs.Divide.{Cut, whole, beginning, misshapen, divide, onCut}
 use Rattle.netif.specs.declared.Queue.{Queue}
-use Rattle.netif.specs.Report.{goOn, halt}
+use Rattle.netif.specs.Report.{goOn}
 use Rattle.netif.specs.declared.Verdict.{Verdict}
 use Rattle.netif.specs.declared.Verdict.the-variants.{Good, Bad}
-use Rattle.netif.specs.Service.{_▹_, Serves}
+use Rattle.netif.specs.Service.{_▹_}
 use Rattle.transmit.specs.Judge.{judge, totalOf}
 use Rattle.netif.specs.Packet.{firstOf}
 use Rattle.transmit.specs.Take.{Outcome, refusal, waitingSlots, repliedPage, handedOver, spoiled, takePacket, Look, stop, ready, look, takeOf, doneReport}
-use Rattle.transmit.specs.Sequence.{State, Fresh, Published, afterPublication, Call, callAt, outcomeOf, answerOf, afterCall, Sequence, Took, Told, Next, Demand3}
+use Rattle.transmit.specs.Sequence.{State, afterPublication, Call, callAt, outcomeOf, answerOf, afterCall, Sequence, Took, Told, Next, Demand3}
 use Rattle.ring.proofs.Counters.{wadd-zero}
 use Rattle.ring.proofs.Standing.{EachBytes, Stands, stands-none, stands-posted, stands-slots, stands-same, stands-less, stands-more, stands-on, slot-wadd}
 use Rattle.netif.proofs.Grammar.{packet-length, packet-some, divide-whole}

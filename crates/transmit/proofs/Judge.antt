@@ -1,12 +1,12 @@
 -- The laws of judging a packet: a good one's total is a frame's, and its parts joined are that many bytes.
 use mathlib.Core.Path.{_≡_, refl, _∙_}
 use mathlib.Core.List.{List, [], _∷_}
-use mathlib.Core.Bool.{Bool, true, false, not, _&&_}
-use Prim.Native.Nat.{ℕ, suc, _+_, _*_, _≤_}
+use mathlib.Core.Bool.{Bool, true, false, not}
+use Prim.Native.Nat.{ℕ, suc, _≤_}
 use native.Mathlib.Omega.{arith}
-use lib.ListN.{length, length-append, length-take, length-drop}
+use lib.ListN.{length, length-append}
 use lib.Dec.{ltb}
-use borrow.Author.Tests.{ltb-false, leb-true, not-false}
+use borrow.Author.Tests.{ltb-false, not-false}
 use Rattle.words.specs.Word.{Bytes}
 use Rattle.grant.specs.Grant.{inRange, fitTransmit}
 use Rattle.grant.proofs.Grant.{part-length}

@@ -1,9 +1,9 @@
 -- Judging as the code does it: a slot's verdict by what the grant lookup answers, the later data slots one by one, and what a good
 -- packet's plan comes to: its parts lie in the window, and joined they are the frame.
 use mathlib.Core.Path.{_≡_, refl, sym, ap, _∙_}
-use mathlib.Core.List.{List, [], _∷_, _++_, map}
-use mathlib.Core.Bool.{Bool, true, false, not, cond, _||_}
-use Prim.Native.Nat.{ℕ, zero, suc, _+_, _-_, _*_, _≤_, _<_}
+use mathlib.Core.List.{List, [], _∷_, map}
+use mathlib.Core.Bool.{Bool, true, false, cond}
+use Prim.Native.Nat.{ℕ, zero, suc, _+_, _-_, _<_}
 use native.Mathlib.Omega.{arith}
 use native.Mathlib.Nat.{add-assoc}
 use native.Mathlib.Numerals.{add-one}
@@ -11,7 +11,7 @@ use lib.ListN.{length, take, drop, getD, set, length-map}
 use lib.Seq.{getD-take, take-at}
 use Rattle.words.specs.Word.{splice, bit}
 use Rattle.words.proofs.Lists.{map-at}
-use borrow.Author.Tests.{eq-eqb, ne-eqb}
+use borrow.Author.Tests.{ne-eqb}
 use Rattle.ring.specs.Ring.{wadd, slotAt, slotsFrom}
 use Rattle.ring.proofs.Ring.{slot-wrap, slots-at, slots-length, slots-drop}
 use Rattle.grant.specs.Grant.{inRange, fitTransmit, pageOf}
@@ -24,9 +24,7 @@ use Rattle.netif.specs.Packet.{firstOf, laterOf, sizes, gsoSizeOf, gsoTypeOf}
 use Rattle.netif.specs.Front.{outlineOf}
 use Rattle.netif.specs.declared.divider.Outline.{Outline}
 use Rattle.netif.specs.declared.DataSlot.{DataSlot}
-use Rattle.netif.specs.declared.Verdict.{Verdict}
 use Rattle.netif.specs.declared.Verdict.the-variants.{Good, Bad}
-use Rattle.netif.specs.Verdict.{_orElse_, test}
 use Rattle.transmit.specs.Judge.{totalOf, ownPart, parts, judgeSizes, judgeGso, judgeSlot, judgeLater, judgeSlots, judge}
 use Rattle.transmit.specs.Plan.{datasOf, slotPage, SizesOf}
 use Rattle.transmit.specs.Code.{laterAt, HoldsParts}

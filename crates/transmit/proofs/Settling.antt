@@ -2,18 +2,18 @@
 -- one's plan lies in the window and is its frame, and replies leave rsp_event, by which notify goes.
 use mathlib.Core.Path.{_≡_, refl, sym, ap, _∙_}
 use mathlib.Core.List.{List, [], _∷_, _++_, map}
-use mathlib.Core.Bool.{Bool, true, false, not}
+use mathlib.Core.Bool.{Bool, false, not}
 use Prim.Native.Nat.{ℕ, zero, suc, _+_, _-_, _*_, _≤_, _<_}
 use native.Mathlib.Omega.{arith}
 use lib.ListN.{length, take, drop, getD, set, length-take, length-append, length-map}
-use lib.Seq.{getD-take, take-at, length-take-le}
+use lib.Seq.{getD-take, take-at}
 use borrow.Author.Tests.{not-false, lt-ltb, le-ltb}
 use Rattle.words.specs.Word.{splice, bit}
 use Rattle.words.proofs.Lists.{map-at}
-use Rattle.ring.specs.Ring.{wadd, notify, slotAt, slotsFrom}
+use Rattle.ring.specs.Ring.{wadd, notify, slotsFrom}
 use Rattle.ring.proofs.Ring.{slots-length, slots-take}
 use Rattle.ring.proofs.Replied.{notify-replied, notify-published}
-use Rattle.grant.specs.Grant.{inRange, fitTransmit, pagePart}
+use Rattle.grant.specs.Grant.{inRange, fitTransmit}
 use Rattle.grant.proofs.Grant.{fit-page, range-page}
 use Rattle.netif.specs.Slot.{Slot, gref, offset, size, okay, error}
 use Rattle.netif.specs.Packet.{firstOf, laterOf, sizes}
@@ -26,7 +26,6 @@ use Rattle.netif.specs.Report.{flag, goOn, plain, spoiledReport, reportOf}
 use Rattle.netif.specs.declared.Queue.{Queue}
 use Rattle.netif.specs.declared.Answer.{Answer}
 use Rattle.netif.specs.declared.Answer.the-variants.{Done, Spoiled}
-use Rattle.netif.specs.declared.Verdict.{Verdict}
 use Rattle.netif.specs.declared.Verdict.the-variants.{Good, Bad}
 use Rattle.netif.specs.Verdict.{_orElse_, test}
 use Rattle.netif.proofs.Within.{within-datas}

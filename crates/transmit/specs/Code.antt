@@ -5,7 +5,7 @@ use lib.ListN.{length, take}
 use Prim.Native.Nat.{ℕ, suc, _+_, _≤_, _<_}
 use Rattle.words.specs.Word.{splice}
 use Rattle.ring.specs.Ring.{wadd, notify, slotsFrom, withReplies}
-use Rattle.netif.specs.Slot.{Slot, slotWidth, slotCount, size, offset}
+use Rattle.netif.specs.Slot.{Slot, slotWidth, slotCount, offset}
 use Rattle.netif.specs.Front.{outlineOf}
 use Rattle.netif.specs.Report.{reportOf}
 use Rattle.netif.specs.declared.DataSlot.{DataSlot}

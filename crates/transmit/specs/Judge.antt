@@ -1,9 +1,9 @@
 -- What document 01 fixes for one packet: its cause for 7, its parts, its frame and its replies.
 -- A packet is given as its slots p and the number e of its extras, which stand behind the first slot.
 use mathlib.Core.List.{List, [], _∷_, _++_, map}
-use mathlib.Core.Bool.{Bool, false, not, cond, _||_}
+use mathlib.Core.Bool.{not, _||_}
 use Prim.Native.Nat.{ℕ, zero, suc, _+_, _-_}
-use lib.Dec.{leb, ltb, eqb}
+use lib.Dec.{ltb, eqb}
 use Rattle.grant.specs.Grant.{inRange, fitTransmit, windowPart}
 use Rattle.netif.specs.declared.Verdict.{Verdict}
 use Rattle.netif.specs.declared.Verdict.the-variants.{Good}

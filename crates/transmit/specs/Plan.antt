@@ -5,7 +5,7 @@ use mathlib.Core.List.{List, [], _∷_, _++_}
 use Prim.Native.Nat.{ℕ, _+_, _*_, _≤_, _<_}
 use lib.ListN.{length, getD}
 use Rattle.grant.specs.Grant.{pageOf, pagePart}
-use Rattle.netif.specs.Slot.{Slot, gref, offset, size}
+use Rattle.netif.specs.Slot.{Slot, gref, size}
 use Rattle.netif.specs.Packet.{firstOf, laterOf}
 
 -- the parts of the window that the tables name, joined

@@ -1,6 +1,6 @@
 // The verdict on a whole packet, and the plan of its parts.
 ghost use mathlib.Core.Path.{_≡_};
-ghost use Prim.Native.Nat.{suc, _+_, _-_, _≤_};
+ghost use Prim.Native.Nat.{_+_, _-_, _≤_};
 ghost use lib.ListN.{length};
 ghost use Rattle.ring.specs.Ring.{pageSize};
 ghost use Rattle.transmit.specs.Judge.{judgeSizes, judgeGso, judgeSlots, judge};

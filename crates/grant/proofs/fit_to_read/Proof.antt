@@ -3,57 +3,42 @@ use Rattle.grant.proofs.Grant.{no-word, not-usable, not-granted, is-fit
 use mathlib.Core.Path.{sym, _∙_}
 use Rattle.grant.proofs.fit_to_read.Statement.{statement}
 use Rattle.grant.proofs.fit_to_read.Tie as tie
-use Rattle.grant.proofs.fit_to_read.Reads as reads
-use Rattle.grant.proofs.fit_to_read.Lts as lts
-use Rattle.words.proofs.bit_of.Reads as bit-of-reads
-use Rattle.words.proofs.u32_at.Reads as u32-at-reads
 
--- src/lib.rt:29:14
 mul-at : tie.Need-mul-at
 mul-at c = search needs
 
--- src/lib.rt:30:23
 add-if1 : tie.Need-add-if1
 add-if1 c = search needs
 
--- src/lib.rt:31:9
 returns : tie.Need-returns
 returns c = let a = c .before .before .before .args in no-word (a .grants .now) (a .window .now) (a .gref) (c .if1 .taken)
 
--- src/lib.rt:33:9
 u32-at-requires : tie.Need-u32-at-requires
 u32-at-requires c κs = search needs
 
--- src/lib.rt:34:16
 cast-if2 : tie.Need-cast-if2
 cast-if2 c = search needs
 
--- src/lib.rt:35:23
 mul-if2 : tie.Need-mul-if2
 mul-if2 c = search needs
 
--- src/lib.rt:35:23
 add-if2 : tie.Need-add-if2
 add-if2 c = search needs
 
--- src/lib.rt:36:9
 returns-2 : tie.Need-returns-2
 returns-2 c =
     let a = c .before .before .before .before .before .args in
     not-usable (a .grants .now) (a .window .now) (a .gref) (c .before .before .if1 .left) (c .before .u32-at .result) (c .before .u32-at .ensures) (c .if2 .taken)
 
--- src/lib.rt:38:8
 bit-of-requires : tie.Need-bit-of-requires
 bit-of-requires c κs = search needs
 
--- src/lib.rt:26:1
 returns-3 : tie.Need-returns-3
 returns-3 c =
     let a = c .before .before .before .before .before .before .before .args in
     let r = c .before .before .before .u32-at in
     is-fit (a .grants .now) (a .window .now) (a .gref) (c .before .before .before .before .if1 .left) (r .result) (r .ensures) (c .before .before .if2 .left) (sym (c .before .bit-of .ensures) ∙ c .if3 .taken)
 
--- src/lib.rt:26:1
 returns-4 : tie.Need-returns-4
 returns-4 c =
     let a = c .before .before .before .before .before .before .before .args in

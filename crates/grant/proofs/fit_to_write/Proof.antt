@@ -6,38 +6,28 @@ use mathlib.Core.Path.{refl, sym, ap, _∙_}
 use Rattle.grant.proofs.Grant.{read-fit, read-unfit, fit-word, write-of}
 use Rattle.grant.proofs.fit_to_write.Statement.{statement}
 use Rattle.grant.proofs.fit_to_write.Tie as tie
-use Rattle.grant.proofs.fit_to_write.Reads as reads
-use Rattle.grant.proofs.fit_to_write.Lts as lts
-use Rattle.grant.proofs.fit_to_read.Reads as fit-to-read-reads
-use Rattle.grant.proofs.is_writable.Reads as is-writable-reads
 
--- src/lib.rt:57:11
 fit-to-read-requires : tie.Need-fit-to-read-requires
 fit-to-read-requires c κs = search needs
 
--- src/lib.rt:58:24
 enum-told : tie.Need-enum-told
 enum-told c = search needs
 
--- src/lib.rt:59:19
 enum-known-page : tie.Need-enum-known-page
 enum-known-page c = search needs
 
--- src/lib.rt:60:16
 is-writable-requires : tie.Need-is-writable-requires
 is-writable-requires c κs =
     let a = c .before .before .before .before .before .before .args in
     let e = rw (c .before .page .given .1) at (c .before .before .before .fit-to-read .ensures) in
     fit-word (a .grants .now) (a .window .now) (a .gref) (read-fit (a .grants .now) (a .window .now) (a .gref) _ e .0)
 
--- src/lib.rt:54:1
 returns : tie.Need-returns
 returns c =
     let a = c .before .before .before .before .before .args in
     let e = rw (c .enum-told .given .1) at (c .before .before .fit-to-read .ensures) in
     sym (write-of (a .grants .now) (a .window .now) (a .gref) false (writable (a .grants .now) (a .gref)) (read-unfit (a .grants .now) (a .window .now) (a .gref) e) refl)
 
--- src/lib.rt:54:1
 returns-2 : tie.Need-returns-2
 returns-2 c =
     let a = c .before .before .before .before .before .before .before .before .args in
@@ -45,7 +35,6 @@ returns-2 c =
     let f = read-fit (a .grants .now) (a .window .now) (a .gref) _ e in
     ap page.Fit (f .1) ∙ sym (write-of (a .grants .now) (a .window .now) (a .gref) true true (f .0) (sym (c .before .is-writable .ensures) ∙ c .if1 .taken))
 
--- src/lib.rt:54:1
 returns-3 : tie.Need-returns-3
 returns-3 c =
     let a = c .before .before .before .before .before .before .before .before .args in

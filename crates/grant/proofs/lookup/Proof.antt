@@ -1,37 +1,28 @@
 use borrow.Author.Needs.{needs}
 use Rattle.grant.specs.declared.Source.the-variants as source
-use mathlib.Core.Path.{sym, ap, _∙_}
+use mathlib.Core.Path.{ap, _∙_}
 use Rattle.grant.proofs.Grant.{read-fit, read-unfit, source-unfit, source-outside, source-at}
 use Rattle.grant.proofs.lookup.Statement.{statement}
 use Rattle.grant.proofs.lookup.Tie as tie
-use Rattle.grant.proofs.lookup.Reads as reads
-use Rattle.grant.proofs.lookup.Lts as lts
-use Rattle.grant.proofs.fit_to_read.Reads as fit-to-read-reads
 
--- src/lib.rt:73:11
 fit-to-read-requires : tie.Need-fit-to-read-requires
 fit-to-read-requires c κs = search needs
 
--- src/lib.rt:74:24
 enum-told : tie.Need-enum-told
 enum-told c = search needs
 
--- src/lib.rt:75:19
 enum-known-page : tie.Need-enum-known-page
 enum-known-page c = search needs
 
--- src/lib.rt:76:23
 add-if1 : tie.Need-add-if1
 add-if1 c = search needs
 
--- src/lib.rt:70:1
 returns : tie.Need-returns
 returns c =
     let a = c .before .before .before .before .before .args in
     let e = rw (c .enum-told .given .1) at (c .before .before .fit-to-read .ensures) in
     source-unfit (a .grants .now) (a .window .now) (a .gref) (a .offset) (a .size) (read-unfit (a .grants .now) (a .window .now) (a .gref) e)
 
--- src/lib.rt:70:1
 returns-2 : tie.Need-returns-2
 returns-2 c =
     let a = c .before .before .before .before .before .before .before .args in
@@ -39,7 +30,6 @@ returns-2 c =
     let f = read-fit (a .grants .now) (a .window .now) (a .gref) _ e in
     source-outside (a .grants .now) (a .window .now) (a .gref) (f .0) (a .offset) (a .size) (c .if1 .taken)
 
--- src/lib.rt:70:1
 returns-3 : tie.Need-returns-3
 returns-3 c =
     let a = c .before .before .before .before .before .before .before .args in

@@ -5,34 +5,25 @@ use native.Mathlib.Omega.{arith}
 use Rattle.grant.specs.Grant.{pagePart}
 use Rattle.grant.proofs.part.Statement.{statement}
 use Rattle.grant.proofs.part.Tie as tie
-use Rattle.grant.proofs.part.Reads as reads
-use Rattle.grant.proofs.part.Lts as lts
 
--- src/lib.rt:90:13
 mul-a : tie.Need-mul-a
 mul-a c = search needs
 
--- src/lib.rt:90:13
 add-a : tie.Need-add-a
 add-a c = search needs
 
--- src/lib.rt:91:13
 add-b : tie.Need-add-b
 add-b c = search needs
 
--- src/lib.rt:92:5
 sub-result : tie.Need-sub-result
 sub-result c = search needs
 
--- src/lib.rt:92:5
 part-result-start : tie.Need-part-result-start
 part-result-start c = search needs
 
--- src/lib.rt:92:5
 part-result-end : tie.Need-part-result-end
 part-result-end c = search needs
 
--- src/lib.rt:86:1
 returns : tie.Need-returns
 unfolding pagePart
 returns c =

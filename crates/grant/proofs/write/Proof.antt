@@ -1,5 +1,5 @@
 use borrow.Author.Needs.{needs}
-use mathlib.Core.Path.{_≡_, ap, _∙_}
+use mathlib.Core.Path.{ap, _∙_}
 use mathlib.Core.List.{_++_}
 use Prim.Native.Nat.{_+_, _-_, _*_}
 use native.Mathlib.Omega.{arith}
@@ -8,39 +8,28 @@ use Rattle.words.proofs.Word.{part-written}
 use Rattle.grant.specs.Grant.{withPage}
 use Rattle.grant.proofs.write.Statement.{statement}
 use Rattle.grant.proofs.write.Tie as tie
-use Rattle.grant.proofs.write.Reads as reads
-use Rattle.grant.proofs.write.Lts as lts
-use Rattle.words.proofs.copy.Reads as copy-reads
 
--- src/lib.rt:100:13
 mul-a : tie.Need-mul-a
 mul-a c = search needs
 
--- src/lib.rt:101:13
 add-b : tie.Need-add-b
 add-b c = search needs
 
--- src/lib.rt:102:24
 sub-copy : tie.Need-sub-copy
 sub-copy c = search needs
 
--- src/lib.rt:102:24
 part-copy-start : tie.Need-part-copy-start
 part-copy-start c = search needs
 
--- src/lib.rt:102:24
 part-copy-end : tie.Need-part-copy-end
 part-copy-end c = search needs
 
--- src/lib.rt:102:5
 copy-requires : tie.Need-copy-requires
 copy-requires c κs = search needs
 
--- src/lib.rt:96:1
 same-length : tie.Need-same-length
 same-length c = search needs
 
--- src/lib.rt:96:1
 returns : tie.Need-returns
 unfolding withPage
 returns c =

@@ -4,29 +4,19 @@ use Rattle.words.specs.Word.{splice, u32Bytes}
 use Rattle.ring.specs.Ring.{wadd, asking, withReqEvent}
 use Rattle.ring.proofs.ask_event.Statement.{statement}
 use Rattle.ring.proofs.ask_event.Tie as tie
-use Rattle.ring.proofs.ask_event.Reads as reads
-use Rattle.ring.proofs.ask_event.Lts as lts
-use Rattle.std.proofs.num.wrapping_add_u32.Reads as wrapping-add-u32-reads
-use Rattle.words.proofs.put_u32.Reads as put-u32-reads
-use Rattle.words.proofs.u32_at.Reads as u32-at-reads
 
--- src/lib.rt:71:43
 u32-at-requires : tie.Need-u32-at-requires
 u32-at-requires c κs = search needs
 
--- src/lib.rt:71:9
 wrapping-add-u32-requires : tie.Need-wrapping-add-u32-requires
 wrapping-add-u32-requires c κs = search needs
 
--- src/lib.rt:72:5
 put-u32-requires : tie.Need-put-u32-requires
 put-u32-requires c κs = search needs
 
--- src/lib.rt:67:1
 same-length : tie.Need-same-length
 same-length c = search needs
 
--- src/lib.rt:67:1
 returns : tie.Need-returns
 unfolding asking withReqEvent wadd
 returns c =

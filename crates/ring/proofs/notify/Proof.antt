@@ -3,24 +3,16 @@ use Rattle.ring.specs.Ring.{notify}
 use Rattle.ring.proofs.Counters.{subtracted}
 use Rattle.ring.proofs.notify.Statement.{statement}
 use Rattle.ring.proofs.notify.Tie as tie
-use Rattle.ring.proofs.notify.Reads as reads
-use Rattle.ring.proofs.notify.Lts as lts
-use Rattle.std.proofs.num.wrapping_sub_u32.Reads as wrapping-sub-u32-reads
-use Rattle.words.proofs.u32_at.Reads as u32-at-reads
 
--- src/lib.rt:88:9
 u32-at-requires : tie.Need-u32-at-requires
 u32-at-requires c κs = search needs
 
--- src/lib.rt:89:5
 wrapping-sub-u32-requires : tie.Need-wrapping-sub-u32-requires
 wrapping-sub-u32-requires c κs = search needs
 
--- src/lib.rt:89:46
 wrapping-sub-u32-requires-2 : tie.Need-wrapping-sub-u32-requires-2
 wrapping-sub-u32-requires-2 c κs = search needs
 
--- src/lib.rt:84:1
 returns : tie.Need-returns
 unfolding notify
 returns c =

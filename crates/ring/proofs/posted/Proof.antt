@@ -3,20 +3,13 @@ use Rattle.ring.specs.Ring.{posted}
 use Rattle.ring.proofs.Counters.{subtracted}
 use Rattle.ring.proofs.posted.Statement.{statement}
 use Rattle.ring.proofs.posted.Tie as tie
-use Rattle.ring.proofs.posted.Reads as reads
-use Rattle.ring.proofs.posted.Lts as lts
-use Rattle.std.proofs.num.wrapping_sub_u32.Reads as wrapping-sub-u32-reads
-use Rattle.words.proofs.u32_at.Reads as u32-at-reads
 
--- src/lib.rt:30:32
 u32-at-requires : tie.Need-u32-at-requires
 u32-at-requires c κs = search needs
 
--- src/lib.rt:30:5
 wrapping-sub-u32-requires : tie.Need-wrapping-sub-u32-requires
 wrapping-sub-u32-requires c κs = search needs
 
--- src/lib.rt:26:1
 returns : tie.Need-returns
 unfolding posted
 returns c =

@@ -6,31 +6,22 @@ use Rattle.ring.specs.Ring.{slotAt}
 use Rattle.ring.proofs.Ring.{place-fits}
 use Rattle.ring.proofs.slot.Statement.{statement}
 use Rattle.ring.proofs.slot.Tie as tie
-use Rattle.ring.proofs.slot.Reads as reads
-use Rattle.ring.proofs.slot.Lts as lts
-use Rattle.ring.proofs.place.Reads as place-reads
 
--- src/lib.rt:53:9
 place-requires : tie.Need-place-requires
 place-requires c κs = search needs
 
--- src/lib.rt:54:13
 add-b : tie.Need-add-b
 add-b c = let a = c .before .before .args in omega (arith, c .place .ensures, place-fits (a .width) (a .count) (a .n) 4096 (c .before .before .pre .1) (c .before .before .pre .2))
 
--- src/lib.rt:55:5
 sub-result : tie.Need-sub-result
 sub-result c = search needs
 
--- src/lib.rt:55:5
 part-result-start : tie.Need-part-result-start
 part-result-start c = search needs
 
--- src/lib.rt:55:5
 part-result-end : tie.Need-part-result-end
 part-result-end c = let a = c .before .before .args in omega (arith, c .place .ensures, place-fits (a .width) (a .count) (a .n) 4096 (c .before .before .pre .1) (c .before .before .pre .2))
 
--- src/lib.rt:49:1
 returns : tie.Need-returns
 unfolding slotAt
 returns c =

@@ -2,10 +2,7 @@ use mathlib.Core.Path.{refl}
 use Rattle.tollmeander.specs.Interface.{queueOf}
 use Rattle.tollmeander.proofs.queue_of.Statement.{statement}
 use Rattle.tollmeander.proofs.queue_of.Tie as tie
-use Rattle.tollmeander.proofs.queue_of.Reads as reads
-use Rattle.tollmeander.proofs.queue_of.Lts as lts
 
--- src/lib.rt:19:1
 returns : tie.Need-returns
 unfolding queueOf
 returns c = refl

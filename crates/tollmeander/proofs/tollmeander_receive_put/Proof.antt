@@ -1,43 +1,30 @@
 -- The export meets its contract: the call's own promise, and its answer and queue as words.
-use mathlib.Core.Path.{_≡_, refl, sym, ap, _∙_}
+use mathlib.Core.Path.{ap, _∙_}
 use Rattle.netif.specs.declared.Queue.{Queue}
 use Rattle.netif.specs.Report.{Report}
 use Rattle.tollmeander.specs.Interface.{markAfter, reportWords}
 use borrow.Author.Needs.{needs}
 use Rattle.tollmeander.proofs.tollmeander_receive_put.Statement.{statement}
 use Rattle.tollmeander.proofs.tollmeander_receive_put.Tie as tie
-use Rattle.tollmeander.proofs.tollmeander_receive_put.Reads as reads
-use Rattle.tollmeander.proofs.tollmeander_receive_put.Lts as lts
-use Rattle.receive.proofs.put.Reads as put-reads
-use Rattle.tollmeander.proofs.mark_after.Reads as mark-after-reads
-use Rattle.tollmeander.proofs.queue_of.Reads as queue-of-reads
-use Rattle.tollmeander.proofs.write.Reads as write-reads
 
--- src/lib.rt:123:9
 queue-of-requires : tie.Need-queue-of-requires
 queue-of-requires c κs = search needs
 
--- src/lib.rt:124:9
 put-requires : tie.Need-put-requires
 put-requires c κs = search needs
 
--- src/lib.rt:127:15
 mark-after-requires : tie.Need-mark-after-requires
 mark-after-requires c κs = search needs
 
--- src/lib.rt:129:5
 write-requires : tie.Need-write-requires
 write-requires c κs = search needs
 
--- src/lib.rt:110:1
 same-length : tie.Need-same-length
 same-length c = search needs
 
--- src/lib.rt:110:1
 same-length-2 : tie.Need-same-length-2
 same-length-2 c = search needs
 
--- src/lib.rt:110:1
 returns : tie.Need-returns
 returns c =
     let a = c .before .before .before .before .before .before .before .before .before .before .before .before .before .before .before .before .before .before .args in

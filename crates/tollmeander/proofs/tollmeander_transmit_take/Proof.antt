@@ -1,43 +1,30 @@
 -- The export meets its contract: the call's own promise, and its answer and queue as words.
-use mathlib.Core.Path.{_≡_, refl, sym, ap, _∙_}
+use mathlib.Core.Path.{ap, _∙_}
 use Rattle.netif.specs.declared.Queue.{Queue}
 use Rattle.netif.specs.Report.{Report}
 use Rattle.tollmeander.specs.Interface.{markAfter, reportWords}
 use borrow.Author.Needs.{needs}
 use Rattle.tollmeander.proofs.tollmeander_transmit_take.Statement.{statement}
 use Rattle.tollmeander.proofs.tollmeander_transmit_take.Tie as tie
-use Rattle.tollmeander.proofs.tollmeander_transmit_take.Reads as reads
-use Rattle.tollmeander.proofs.tollmeander_transmit_take.Lts as lts
-use Rattle.tollmeander.proofs.mark_after.Reads as mark-after-reads
-use Rattle.tollmeander.proofs.queue_of.Reads as queue-of-reads
-use Rattle.tollmeander.proofs.write.Reads as write-reads
-use Rattle.transmit.proofs.take.Reads as take-reads
 
--- src/lib.rt:100:9
 queue-of-requires : tie.Need-queue-of-requires
 queue-of-requires c κs = search needs
 
--- src/lib.rt:101:9
 take-requires : tie.Need-take-requires
 take-requires c κs = search needs
 
--- src/lib.rt:104:15
 mark-after-requires : tie.Need-mark-after-requires
 mark-after-requires c κs = search needs
 
--- src/lib.rt:106:5
 write-requires : tie.Need-write-requires
 write-requires c κs = search needs
 
--- src/lib.rt:87:1
 same-length : tie.Need-same-length
 same-length c = search needs
 
--- src/lib.rt:87:1
 same-length-2 : tie.Need-same-length-2
 same-length-2 c = search needs
 
--- src/lib.rt:87:1
 returns : tie.Need-returns
 returns c =
     let a = c .before .before .before .before .before .before .before .before .before .before .before .before .before .before .before .before .before .before .args in

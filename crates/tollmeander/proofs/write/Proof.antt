@@ -2,141 +2,103 @@
 use borrow.Author.Needs.{needs}
 use Rattle.tollmeander.proofs.write.Statement.{statement}
 use Rattle.tollmeander.proofs.write.Tie as tie
-use Rattle.tollmeander.proofs.write.Reads as reads
-use Rattle.tollmeander.proofs.write.Lts as lts
-use Rattle.tollmeander.proofs.write_done.Reads as write-done-reads
-use Rattle.tollmeander.proofs.write_number.Reads as write-number-reads
-use Rattle.tollmeander.proofs.write_spoiled.Reads as write-spoiled-reads
 
--- src/lib.rt:72:22
 enum-known-answer : tie.Need-enum-known-answer
 enum-known-answer c = search needs
 
--- src/lib.rt:72:28
 write-done-requires : tie.Need-write-done-requires
 write-done-requires c κs = search needs
 
--- src/lib.rt:73:27
 enum-known-answer-2 : tie.Need-enum-known-answer-2
 enum-known-answer-2 c = search needs
 
--- src/lib.rt:73:60
 write-spoiled-requires : tie.Need-write-spoiled-requires
 write-spoiled-requires c κs = search needs
 
--- src/lib.rt:74:41
 enum-told : tie.Need-enum-told
 enum-told c = search needs
 
--- src/lib.rt:74:28
 write-number-requires : tie.Need-write-number-requires
 write-number-requires c κs = search needs
 
--- src/lib.rt:75:47
 enum-told-2 : tie.Need-enum-told-2
 enum-told-2 c = search needs
 
--- src/lib.rt:75:34
 write-number-requires-2 : tie.Need-write-number-requires-2
 write-number-requires-2 c κs = search needs
 
--- src/lib.rt:76:42
 enum-told-3 : tie.Need-enum-told-3
 enum-told-3 c = search needs
 
--- src/lib.rt:76:29
 write-number-requires-3 : tie.Need-write-number-requires-3
 write-number-requires-3 c κs = search needs
 
--- src/lib.rt:77:39
 enum-told-4 : tie.Need-enum-told-4
 enum-told-4 c = search needs
 
--- src/lib.rt:77:26
 write-number-requires-4 : tie.Need-write-number-requires-4
 write-number-requires-4 c κs = search needs
 
--- src/lib.rt:78:43
 enum-told-5 : tie.Need-enum-told-5
 enum-told-5 c = search needs
 
--- src/lib.rt:78:30
 write-number-requires-5 : tie.Need-write-number-requires-5
 write-number-requires-5 c κs = search needs
 
--- src/lib.rt:79:41
 enum-told-6 : tie.Need-enum-told-6
 enum-told-6 c = search needs
 
--- src/lib.rt:79:28
 write-number-requires-6 : tie.Need-write-number-requires-6
 write-number-requires-6 c κs = search needs
 
--- src/lib.rt:80:40
 enum-told-7 : tie.Need-enum-told-7
 enum-told-7 c = search needs
 
--- src/lib.rt:80:27
 write-number-requires-7 : tie.Need-write-number-requires-7
 write-number-requires-7 c κs = search needs
 
--- src/lib.rt:81:43
 enum-told-8 : tie.Need-enum-told-8
 enum-told-8 c = search needs
 
--- src/lib.rt:81:30
 write-number-requires-8 : tie.Need-write-number-requires-8
 write-number-requires-8 c κs = search needs
 
--- src/lib.rt:82:43
 enum-told-9 : tie.Need-enum-told-9
 enum-told-9 c = search needs
 
--- src/lib.rt:82:30
 write-number-requires-9 : tie.Need-write-number-requires-9
 write-number-requires-9 c κs = search needs
 
--- src/lib.rt:68:1
 returns : tie.Need-returns
 returns c = rw (c .before .before .before .answer .given .1) (c .write-done .ensures)
 
--- src/lib.rt:68:1
 returns-2 : tie.Need-returns-2
 returns-2 c = rw (c .before .before .before .answer2 .given .1) (c .write-spoiled .ensures)
 
--- src/lib.rt:68:1
 returns-3 : tie.Need-returns-3
 returns-3 c = rw (c .before .before .enum-told .given .1) (c .write-number .ensures)
 
--- src/lib.rt:68:1
 returns-4 : tie.Need-returns-4
 returns-4 c = rw (c .before .before .enum-told2 .given .1) (c .write-number2 .ensures)
 
--- src/lib.rt:68:1
 returns-5 : tie.Need-returns-5
 returns-5 c = rw (c .before .before .enum-told3 .given .1) (c .write-number3 .ensures)
 
--- src/lib.rt:68:1
 returns-6 : tie.Need-returns-6
 returns-6 c = rw (c .before .before .enum-told4 .given .1) (c .write-number4 .ensures)
 
--- src/lib.rt:68:1
 returns-7 : tie.Need-returns-7
 returns-7 c = rw (c .before .before .enum-told5 .given .1) (c .write-number5 .ensures)
 
--- src/lib.rt:68:1
 returns-8 : tie.Need-returns-8
 returns-8 c = rw (c .before .before .enum-told6 .given .1) (c .write-number6 .ensures)
 
--- src/lib.rt:68:1
 returns-9 : tie.Need-returns-9
 returns-9 c = rw (c .before .before .enum-told7 .given .1) (c .write-number7 .ensures)
 
--- src/lib.rt:68:1
 returns-10 : tie.Need-returns-10
 returns-10 c = rw (c .before .before .enum-told8 .given .1) (c .write-number8 .ensures)
 
--- src/lib.rt:68:1
 returns-11 : tie.Need-returns-11
 returns-11 c = rw (c .before .before .enum-told9 .given .1) (c .write-number9 .ensures)
 

@@ -1,38 +1,26 @@
-use mathlib.Core.Path.{_≡_, refl, sym, ap, _∙_}
-use native.Mathlib.Omega.{arith}
+use mathlib.Core.Path.{sym}
 use Rattle.ring.proofs.Ring.{slots-length}
 use Rattle.transmit.specs.Code.{packetAt}
 use Rattle.transmit.proofs.Settling.{gives-done}
 use borrow.Author.Needs.{needs}
 use Rattle.transmit.proofs.accept.Statement.{statement}
 use Rattle.transmit.proofs.accept.Tie as tie
-use Rattle.transmit.proofs.accept.Reads as reads
-use Rattle.transmit.proofs.accept.Lts as lts
-use Rattle.netif.proofs.DataSlot.checksum_blank.Reads as checksum-blank-reads
-use Rattle.netif.proofs.DataSlot.data_validated.Reads as data-validated-reads
-use Rattle.transmit.proofs.consume.Reads as consume-reads
 
--- src/lib.rt:64:9
 checksum-blank-requires : tie.Need-checksum-blank-requires
 checksum-blank-requires c κs = search needs
 
--- src/lib.rt:65:9
 data-validated-requires : tie.Need-data-validated-requires
 data-validated-requires c κs = search needs
 
--- src/lib.rt:66:9
 consume-requires : tie.Need-consume-requires
 consume-requires c κs = search needs
 
--- src/lib.rt:71:20
 cast-t10 : tie.Need-cast-t10
 cast-t10 c = search needs
 
--- src/lib.rt:59:1
 same-length : tie.Need-same-length
 same-length c = search needs
 
--- src/lib.rt:59:1
 returns : tie.Need-returns
 returns c =
     let a = c .before .before .before .before .before .before .before .before .before .args in

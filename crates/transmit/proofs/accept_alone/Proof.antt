@@ -1,29 +1,18 @@
 -- `accept_alone` meets its contract: the slot's part is the packet's frame.
-use mathlib.Core.Path.{_≡_, refl, sym, ap, _∙_}
-use Prim.Native.Nat.{_+_, _*_}
+use mathlib.Core.Path.{refl, ap, _∙_}
 use native.Mathlib.Omega.{arith}
-use lib.ListN.{length}
 use Rattle.words.specs.Word.{splice}
-use Rattle.ring.specs.Ring.{slotAt}
 use Rattle.netif.specs.declared.Answer.the-variants.{NoRoom}
-use Rattle.transmit.specs.Judge.{ownPart}
 use Rattle.transmit.specs.Code.{packetOne}
 use Rattle.transmit.proofs.Alone.{alone-ready, alone-total, alone-frame}
 use Rattle.transmit.proofs.Settling.{packet-no-room, packet-done, gives-refusal}
 use borrow.Author.Needs.{needs}
 use Rattle.transmit.proofs.accept_alone.Statement.{statement}
 use Rattle.transmit.proofs.accept_alone.Tie as tie
-use Rattle.transmit.proofs.accept_alone.Reads as reads
-use Rattle.transmit.proofs.accept_alone.Lts as lts
-use Rattle.transmit.proofs.accept.Reads as accept-reads
-use Rattle.transmit.proofs.gathering.copy_part.Reads as copy-part-reads
-use Rattle.transmit.proofs.outline_of.Reads as outline-of-reads
 
--- src/lib.rt:151:22
 cast-if1 : tie.Need-cast-if1
 cast-if1 c = search needs
 
--- src/lib.rt:152:9
 returns : tie.Need-returns
 returns c =
     let a = c .before .before .before .before .before .args in
@@ -34,15 +23,12 @@ returns c =
     rw (packet-no-room table (a .window .now) q (a .ring .now) (a .frame .now) 0 ps good (omega (arith, alone-total (a .ring .now) (q .consumed) (a .head) (p .1), c .if1 .taken)))
     (gives-refusal 8 q (a .ring .now) (a .frame .now) NoRoom refl)
 
--- src/lib.rt:154:5
 copy-part-requires : tie.Need-copy-part-requires
 copy-part-requires c κs = search needs
 
--- src/lib.rt:155:19
 outline-of-requires : tie.Need-outline-of-requires
 outline-of-requires c κs = search needs
 
--- src/lib.rt:155:5
 accept-requires : tie.Need-accept-requires
 accept-requires c κs =
     let a = c .before .before .before .before .before .before .before .before .before .before .before .args in
@@ -51,15 +37,12 @@ accept-requires c κs =
     let ps = packetOne (a .ring .now) (q .consumed) in
     (p .0, rw (c .before .outline-of .ensures) (alone-ready (a .ring .now) (q .consumed) (a .head) (p .1)))
 
--- src/lib.rt:147:1
 same-length : tie.Need-same-length
 same-length c = search needs
 
--- src/lib.rt:147:1
 same-length-2 : tie.Need-same-length-2
 same-length-2 c = search needs
 
--- src/lib.rt:147:1
 returns-2 : tie.Need-returns-2
 returns-2 c =
     let a = c .before .before .before .before .before .before .before .before .before .before .before .before .before .before .args in

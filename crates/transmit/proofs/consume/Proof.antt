@@ -5,34 +5,22 @@ use Rattle.transmit.proofs.Settling.{notify-stays}
 use borrow.Author.Needs.{needs}
 use Rattle.transmit.proofs.consume.Statement.{statement}
 use Rattle.transmit.proofs.consume.Tie as tie
-use Rattle.transmit.proofs.consume.Reads as reads
-use Rattle.transmit.proofs.consume.Lts as lts
-use Rattle.ring.proofs.ahead.Reads as ahead-reads
-use Rattle.ring.proofs.notify.Reads as notify-reads
-use Rattle.ring.proofs.publish.Reads as publish-reads
-use Rattle.transmit.proofs.replying.reply.Reads as reply-reads
 
--- src/lib.rt:39:9
 ahead-requires : tie.Need-ahead-requires
 ahead-requires c κs = search needs
 
--- src/lib.rt:40:5
 reply-requires : tie.Need-reply-requires
 reply-requires c κs = search needs
 
--- src/lib.rt:41:5
 publish-requires : tie.Need-publish-requires
 publish-requires c κs = search needs
 
--- src/lib.rt:42:9
 notify-requires : tie.Need-notify-requires
 notify-requires c κs = search needs
 
--- src/lib.rt:35:1
 same-length : tie.Need-same-length
 same-length c = search needs
 
--- src/lib.rt:35:1
 returns : tie.Need-returns
 unfolding repliedPage
 returns c =

@@ -1,24 +1,17 @@
-use mathlib.Core.Path.{_≡_, refl, sym, ap, _∙_}
-use native.Mathlib.Omega.{arith}
+use mathlib.Core.Path.{sym}
 use Rattle.ring.proofs.Ring.{slots-length}
 use Rattle.transmit.specs.Code.{packetAt}
 use Rattle.transmit.proofs.Settling.{gives-spoiled}
 use borrow.Author.Needs.{needs}
 use Rattle.transmit.proofs.refuse.Statement.{statement}
 use Rattle.transmit.proofs.refuse.Tie as tie
-use Rattle.transmit.proofs.refuse.Reads as reads
-use Rattle.transmit.proofs.refuse.Lts as lts
-use Rattle.transmit.proofs.consume.Reads as consume-reads
 
--- src/lib.rt:51:9
 consume-requires : tie.Need-consume-requires
 consume-requires c κs = search needs
 
--- src/lib.rt:47:1
 same-length : tie.Need-same-length
 same-length c = search needs
 
--- src/lib.rt:47:1
 returns : tie.Need-returns
 returns c =
     let a = c .before .before .before .before .before .args in

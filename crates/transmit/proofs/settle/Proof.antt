@@ -1,5 +1,5 @@
 -- `settle` meets its contract: by the verdict the packet is spoiled, finds no room, or is handed over with its parts joined in the frame buffer.
-use mathlib.Core.Path.{_≡_, refl, sym, ap, _∙_}
+use mathlib.Core.Path.{refl, sym, ap, _∙_}
 use Prim.Native.Nat.{_-_}
 use native.Mathlib.Omega.{arith}
 use lib.ListN.{length}
@@ -12,38 +12,25 @@ use Rattle.transmit.proofs.Settling.{plan-long, plan-inside, plan-joine
 use borrow.Author.Needs.{needs}
 use Rattle.transmit.proofs.settle.Statement.{statement}
 use Rattle.transmit.proofs.settle.Tie as tie
-use Rattle.transmit.proofs.settle.Reads as reads
-use Rattle.transmit.proofs.settle.Lts as lts
-use Rattle.transmit.proofs.accept.Reads as accept-reads
-use Rattle.transmit.proofs.gathering.gather.Reads as gather-reads
-use Rattle.transmit.proofs.judging.judge.Reads as judge-reads
-use Rattle.transmit.proofs.refuse.Reads as refuse-reads
 
--- src/lib.rt:89:11
 judge-requires : tie.Need-judge-requires
 judge-requires c κs = search needs
 
--- src/lib.rt:90:24
 enum-known-cause : tie.Need-enum-known-cause
 enum-known-cause c = search needs
 
--- src/lib.rt:90:42
 refuse-requires : tie.Need-refuse-requires
 refuse-requires c κs = search needs
 
--- src/lib.rt:92:16
 enum-told : tie.Need-enum-told
 enum-told c = search needs
 
--- src/lib.rt:92:30
 cast-if1 : tie.Need-cast-if1
 cast-if1 c = search needs
 
--- src/lib.rt:93:17
 same-length : tie.Need-same-length
 same-length c = search needs
 
--- src/lib.rt:93:17
 returns : tie.Need-returns
 returns c =
     let a = c .before .before .before .before .before .before .before .before .before .before .before .before .before .args in
@@ -57,15 +44,12 @@ returns c =
     rw (packet-no-room (a .grants .now) (a .window .now) q (a .ring .now) (a .frame .now) e ps good (omega (arith, total, c .if1 .taken)))
     (gives-refusal 8 q (a .ring .now) (a .frame .now) NoRoom refl)
 
--- src/lib.rt:95:26
 sub-count : tie.Need-sub-count
 sub-count c = search needs
 
--- src/lib.rt:95:25
 cast-count : tie.Need-cast-count
 cast-count c = search needs
 
--- src/lib.rt:96:13
 gather-requires : tie.Need-gather-requires
 gather-requires c κs =
     let a = c .before .before .before .before .before .before .before .before .before .before .before .before .before .before .before .before .before .args in
@@ -86,15 +70,12 @@ gather-requires c κs =
       omega (arith, size, frame-length (a .grants .now) (a .window .now) e ps good, total, c .before .before .before .before .if1 .left),
     )
 
--- src/lib.rt:97:13
 accept-requires : tie.Need-accept-requires
 accept-requires c κs = search needs
 
--- src/lib.rt:82:1
 same-length-2 : tie.Need-same-length-2
 same-length-2 c = search needs
 
--- src/lib.rt:82:1
 returns-2 : tie.Need-returns-2
 returns-2 c =
     let a = c .before .before .before .before .before .before .before .before .before .before .before .before .before .before .before .before .args in
@@ -105,15 +86,12 @@ returns-2 c =
     let j = c .before .before .before .before .before .before .before .judge .ensures in
     rw (packet-spoiled (a .grants .now) (a .window .now) q (a .ring .now) (a .frame .now) e ps _ _ (sym (j .verdict) ∙ c .before .before .before .before .before .cause .given .1)) (c .before .before .refuse .ensures (a .frame .now))
 
--- src/lib.rt:82:1
 same-length-3 : tie.Need-same-length-3
 same-length-3 c = search needs
 
--- src/lib.rt:82:1
 same-length-4 : tie.Need-same-length-4
 same-length-4 c = search needs
 
--- src/lib.rt:82:1
 returns-3 : tie.Need-returns-3
 returns-3 c =
     let a = c .before .before .before .before .before .before .before .before .before .before .before .before .before .before .before .before .before .before .before .before .before .before .before .before .args in

@@ -1,11 +1,8 @@
 -- `settle_alone` meets its contract: the verdict on the slot is that on the packet.
-use mathlib.Core.Path.{_≡_, refl, sym, ap, _∙_}
+use mathlib.Core.Path.{sym, ap, _∙_}
 use Prim.Native.Nat.{_+_, _*_}
 use native.Mathlib.Omega.{arith}
-use lib.ListN.{length}
-use Rattle.words.specs.Word.{splice}
 use Rattle.ring.specs.Ring.{slotAt}
-use Rattle.netif.specs.declared.Answer.the-variants.{NoRoom}
 use Rattle.transmit.specs.Judge.{ownPart}
 use Rattle.transmit.specs.Code.{packetOne}
 use Rattle.transmit.proofs.Plans.{slot-unfit, slot-outside, slot-at}
@@ -14,32 +11,19 @@ use Rattle.transmit.proofs.Settling.{slot-inside, packet-spoiled}
 use borrow.Author.Needs.{needs}
 use Rattle.transmit.proofs.settle_alone.Statement.{statement}
 use Rattle.transmit.proofs.settle_alone.Tie as tie
-use Rattle.transmit.proofs.settle_alone.Reads as reads
-use Rattle.transmit.proofs.settle_alone.Lts as lts
-use Rattle.grant.proofs.lookup.Reads as lookup-reads
-use Rattle.netif.proofs.DataSlot.at.Reads as at-reads
-use Rattle.transmit.proofs.accept_alone.Reads as accept-alone-reads
-use Rattle.transmit.proofs.judging.judge_sizes.Reads as judge-sizes-reads
-use Rattle.transmit.proofs.outline_of.Reads as outline-of-reads
-use Rattle.transmit.proofs.refuse.Reads as refuse-reads
 
--- src/lib.rt:163:9
 at-requires : tie.Need-at-requires
 at-requires c κs = search needs
 
--- src/lib.rt:164:11
 judge-sizes-requires : tie.Need-judge-sizes-requires
 judge-sizes-requires c κs = search needs
 
--- src/lib.rt:165:24
 enum-known-cause : tie.Need-enum-known-cause
 enum-known-cause c = search needs
 
--- src/lib.rt:165:56
 outline-of-requires : tie.Need-outline-of-requires
 outline-of-requires c κs = search needs
 
--- src/lib.rt:165:42
 refuse-requires : tie.Need-refuse-requires
 refuse-requires c κs =
     let a = c .before .before .before .before .before .before .before .before .before .before .before .before .args in
@@ -49,23 +33,18 @@ refuse-requires c κs =
     let d = c .before .before .before .before .before .before .at in
     (c .before .before .before .before .before .before .before .before .before .before .before .before .pre, rw (c .before .outline-of .ensures) (alone-ready (a .ring .now) (q .consumed) (d .result) (d .ensures)))
 
--- src/lib.rt:166:32
 enum-told : tie.Need-enum-told
 enum-told c = search needs
 
--- src/lib.rt:166:32
 lookup-requires : tie.Need-lookup-requires
 lookup-requires c κs = search needs
 
--- src/lib.rt:167:44
 enum-told-2 : tie.Need-enum-told-2
 enum-told-2 c = search needs
 
--- src/lib.rt:167:44
 outline-of-requires-2 : tie.Need-outline-of-requires-2
 outline-of-requires-2 c κs = search needs
 
--- src/lib.rt:167:30
 refuse-requires-2 : tie.Need-refuse-requires-2
 refuse-requires-2 c κs =
     let a = c .before .before .before .before .before .before .before .before .before .before .before .before .before .before .args in
@@ -75,15 +54,12 @@ refuse-requires-2 c κs =
     let d = c .before .before .before .before .before .before .before .before .at in
     (c .before .before .before .before .before .before .before .before .before .before .before .before .before .before .pre, rw (c .before .outline-of2 .ensures) (alone-ready (a .ring .now) (q .consumed) (d .result) (d .ensures)))
 
--- src/lib.rt:168:46
 enum-told-3 : tie.Need-enum-told-3
 enum-told-3 c = search needs
 
--- src/lib.rt:168:46
 outline-of-requires-3 : tie.Need-outline-of-requires-3
 outline-of-requires-3 c κs = search needs
 
--- src/lib.rt:168:32
 refuse-requires-3 : tie.Need-refuse-requires-3
 refuse-requires-3 c κs =
     let a = c .before .before .before .before .before .before .before .before .before .before .before .before .before .before .args in
@@ -93,11 +69,9 @@ refuse-requires-3 c κs =
     let d = c .before .before .before .before .before .before .before .before .at in
     (c .before .before .before .before .before .before .before .before .before .before .before .before .before .before .pre, rw (c .before .outline-of3 .ensures) (alone-ready (a .ring .now) (q .consumed) (d .result) (d .ensures)))
 
--- src/lib.rt:169:24
 enum-known-page : tie.Need-enum-known-page
 enum-known-page c = search needs
 
--- src/lib.rt:169:33
 accept-alone-requires : tie.Need-accept-alone-requires
 accept-alone-requires c κs =
     let a = c .before .before .before .before .before .before .before .before .before .before .before .before .before .before .before .args in
@@ -116,11 +90,9 @@ accept-alone-requires c κs =
       omega (arith, offset-is (a .ring .now) (q .consumed) (d .result) (d .ensures), own-is (a .ring .now) (q .consumed) (d .result) (d .ensures), inside .1),
     )
 
--- src/lib.rt:159:1
 same-length : tie.Need-same-length
 same-length c = search needs
 
--- src/lib.rt:159:1
 returns : tie.Need-returns
 returns c =
     let a = c .before .before .before .before .before .before .before .before .before .before .before .before .before .before .before .args in
@@ -130,11 +102,9 @@ returns c =
     let d = c .before .before .before .before .before .before .before .before .before .at in
     rw (packet-spoiled (a .grants .now) (a .window .now) q (a .ring .now) (a .frame .now) 0 ps _ _ (alone-short (a .ring .now) (q .consumed) (d .result) (d .ensures) (a .grants .now) (a .window .now) _ _ (sym (c .before .before .before .before .before .before .before .before .judge-sizes .ensures) ∙ c .before .before .before .before .before .before .cause .given .1))) (rw (c .before .before .before .before .outline-of .ensures) at (c .before .before .refuse .ensures (a .frame .now)))
 
--- src/lib.rt:159:1
 same-length-2 : tie.Need-same-length-2
 same-length-2 c = search needs
 
--- src/lib.rt:159:1
 returns-2 : tie.Need-returns-2
 returns-2 c =
     let a = c .before .before .before .before .before .before .before .before .before .before .before .before .before .before .before .before .before .args in
@@ -146,11 +116,9 @@ returns-2 c =
     let found = c .before .before .before .before .before .before .before .lookup .ensures ∙ alone-looked (a .ring .now) (q .consumed) (d .result) (d .ensures) (a .grants .now) (a .window .now) in
     rw (packet-spoiled (a .grants .now) (a .window .now) q (a .ring .now) (a .frame .now) 0 ps _ _ (alone-bad (a .ring .now) (q .consumed) (d .result) (d .ensures) (a .grants .now) (a .window .now) right 4 0 (slot-unfit (a .grants .now) (a .window .now) 0 slot (ownPart 0 ps) (sym (c .before .before .before .before .before .enum-told2 .given .1) ∙ found)))) (rw (c .before .before .before .before .outline-of2 .ensures) at (c .before .before .refuse2 .ensures (a .frame .now)))
 
--- src/lib.rt:159:1
 same-length-3 : tie.Need-same-length-3
 same-length-3 c = search needs
 
--- src/lib.rt:159:1
 returns-3 : tie.Need-returns-3
 returns-3 c =
     let a = c .before .before .before .before .before .before .before .before .before .before .before .before .before .before .before .before .before .args in
@@ -162,15 +130,12 @@ returns-3 c =
     let found = c .before .before .before .before .before .before .before .lookup .ensures ∙ alone-looked (a .ring .now) (q .consumed) (d .result) (d .ensures) (a .grants .now) (a .window .now) in
     rw (packet-spoiled (a .grants .now) (a .window .now) q (a .ring .now) (a .frame .now) 0 ps _ _ (alone-bad (a .ring .now) (q .consumed) (d .result) (d .ensures) (a .grants .now) (a .window .now) right 5 0 (slot-outside (a .grants .now) (a .window .now) 0 slot (ownPart 0 ps) (sym (c .before .before .before .before .before .enum-told3 .given .1) ∙ found)))) (rw (c .before .before .before .before .outline-of3 .ensures) at (c .before .before .refuse3 .ensures (a .frame .now)))
 
--- src/lib.rt:159:1
 same-length-4 : tie.Need-same-length-4
 same-length-4 c = search needs
 
--- src/lib.rt:159:1
 same-length-5 : tie.Need-same-length-5
 same-length-5 c = search needs
 
--- src/lib.rt:159:1
 returns-4 : tie.Need-returns-4
 returns-4 c =
     let a = c .before .before .before .before .before .before .before .before .before .before .before .before .before .before .before .before .before .before .before .before .args in

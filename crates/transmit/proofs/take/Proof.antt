@@ -1,5 +1,5 @@
 -- `take` meets its contract, in the order of the answers.
-use mathlib.Core.Path.{_≡_, refl, sym, _∙_}
+use mathlib.Core.Path.{refl, sym, _∙_}
 use native.Mathlib.Omega.{arith}
 use lib.ListN.{length}
 use borrow.Author.Tests.{eqb-true, not-true, not-false}
@@ -10,22 +10,13 @@ use Rattle.transmit.proofs.Settling.{gives-refusal}
 use borrow.Author.Needs.{needs}
 use Rattle.transmit.proofs.take.Statement.{statement}
 use Rattle.transmit.proofs.take.Tie as tie
-use Rattle.transmit.proofs.take.Reads as reads
-use Rattle.transmit.proofs.take.Lts as lts
-use Rattle.ring.proofs.ask_event.Reads as ask-event-reads
-use Rattle.ring.proofs.is_page.Reads as is-page-reads
-use Rattle.ring.proofs.posted.Reads as posted-reads
-use Rattle.transmit.proofs.take_front.Reads as take-front-reads
 
--- src/lib.rt:129:9
 is-page-requires : tie.Need-is-page-requires
 is-page-requires c κs = search needs
 
--- src/lib.rt:130:9
 same-length : tie.Need-same-length
 same-length c = search needs
 
--- src/lib.rt:130:9
 returns : tie.Need-returns
 returns c =
     let a = c .before .before .before .before .before .before .before .args in
@@ -33,11 +24,9 @@ returns c =
     rw (take-of (a .grants .now) (a .window .now) q (a .ring .now) (a .frame .now) (stop 1) (look-bad (a .grants .now) (a .window .now) q (a .ring .now) (sym (c .before .is-page .ensures) ∙ not-true _ (c .if1 .taken))))
     (gives-refusal 1 q (a .ring .now) (a .frame .now) BadPage refl)
 
--- src/lib.rt:133:9
 same-length-2 : tie.Need-same-length-2
 same-length-2 c = search needs
 
--- src/lib.rt:133:9
 returns-2 : tie.Need-returns-2
 returns-2 c =
     let a = c .before .before .before .before .before .before .before .before .args in
@@ -46,15 +35,12 @@ returns-2 c =
     rw (take-of (a .grants .now) (a .window .now) q (a .ring .now) (a .frame .now) (stop 2) (look-halted (a .grants .now) (a .window .now) q (a .ring .now) size (c .if2 .taken)))
     (gives-refusal 2 q (a .ring .now) (a .frame .now) HaltedAlready refl)
 
--- src/lib.rt:135:9
 posted-requires : tie.Need-posted-requires
 posted-requires c κs = eqb-true (length (c .before .before .before .before .before .before .before .before .before .args .ring .now)) 4096 (sym (c .before .before .before .is-page .ensures) ∙ not-false _ (c .before .before .if1 .left))
 
--- src/lib.rt:137:9
 same-length-3 : tie.Need-same-length-3
 same-length-3 c = search needs
 
--- src/lib.rt:137:9
 returns-3 : tie.Need-returns-3
 returns-3 c =
     let a = c .before .before .before .before .before .before .before .before .before .before .before .args in
@@ -63,15 +49,12 @@ returns-3 c =
     rw (take-of (a .grants .now) (a .window .now) q (a .ring .now) (a .frame .now) (stop 3) (look-over (a .grants .now) (a .window .now) q (a .ring .now) size (c .before .before .before .if2 .left) (rw (c .before .posted .ensures) at (c .if3 .taken))))
     (gives-refusal 3 q (a .ring .now) (a .frame .now) Overflow refl)
 
--- src/lib.rt:143:9
 ask-event-requires : tie.Need-ask-event-requires
 ask-event-requires c κs = eqb-true (length (c .before .before .before .before .before .before .before .before .before .before .before .before .before .args .ring .now)) 4096 (sym (c .before .before .before .before .before .before .before .is-page .ensures) ∙ not-false _ (c .before .before .before .before .before .before .if1 .left))
 
--- src/lib.rt:144:9
 same-length-4 : tie.Need-same-length-4
 same-length-4 c = search needs
 
--- src/lib.rt:144:9
 returns-4 : tie.Need-returns-4
 returns-4 c =
     let a = c .before .before .before .before .before .before .before .before .before .before .before .before .before .before .before .before .args in
@@ -80,19 +63,15 @@ returns-4 c =
     rw (take-of (a .grants .now) (a .window .now) q (a .ring .now) (a .frame .now) (stop 4) (look-empty (a .grants .now) (a .window .now) q (a .ring .now) size (c .before .before .before .before .before .before .before .before .if2 .left) (sym (c .before .before .before .before .before .before .posted .ensures) ∙ c .before .before .before .before .if4 .taken)), c .before .before .ask-event .ensures)
     (gives-refusal 4 q (a .ring .now) (a .frame .now) Empty refl)
 
--- src/lib.rt:146:5
 take-front-requires : tie.Need-take-front-requires
 take-front-requires c κs = (eqb-true (length (c .before .before .before .before .before .before .before .before .before .before .before .before .before .before .args .ring .now)) 4096 (sym (c .before .before .before .before .before .before .before .before .is-page .ensures) ∙ not-false _ (c .before .before .before .before .before .before .before .if1 .left)), c .before .before .before .before .posted .ensures, omega (arith, c .before .before .if4 .left), omega (arith, c .before .before .before .if3 .left))
 
--- src/lib.rt:126:1
 same-length-5 : tie.Need-same-length-5
 same-length-5 c = search needs
 
--- src/lib.rt:126:1
 same-length-6 : tie.Need-same-length-6
 same-length-6 c = search needs
 
--- src/lib.rt:126:1
 returns-5 : tie.Need-returns-5
 returns-5 c =
     let a = c .before .before .before .before .before .before .before .before .before .before .before .before .before .before .before .before .before .before .before .args in

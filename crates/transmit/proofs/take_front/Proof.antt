@@ -1,9 +1,9 @@
 -- `take_front` meets its contract: a slot that is a packet by itself, or what the divider read at the front of the posted slots.
-use mathlib.Core.Path.{_≡_, refl, sym, ap, _∙_}
+use mathlib.Core.Path.{refl, sym, ap, _∙_}
 use mathlib.Core.List.{map}
 use Prim.Native.Nat.{_+_}
 use native.Mathlib.Omega.{arith}
-use lib.ListN.{length, take, replicate}
+use lib.ListN.{take, replicate}
 use Rattle.words.specs.Word.{splice}
 use Rattle.ring.specs.Ring.{slotsFrom}
 use Rattle.netif.specs.Slot.{size}
@@ -16,32 +16,19 @@ use Rattle.transmit.proofs.Settling.{front-beginning, front-misshapen, 
 use borrow.Author.Needs.{needs}
 use Rattle.transmit.proofs.take_front.Statement.{statement}
 use Rattle.transmit.proofs.take_front.Tie as tie
-use Rattle.transmit.proofs.take_front.Reads as reads
-use Rattle.transmit.proofs.take_front.Lts as lts
-use Rattle.netif.proofs.divider.is_alone.Reads as is-alone-reads
-use Rattle.netif.proofs.divider.read.Reads as read-reads
-use Rattle.ring.proofs.ask_event.Reads as ask-event-reads
-use Rattle.transmit.proofs.judging.own_part.Reads as own-part-reads
-use Rattle.transmit.proofs.settle.Reads as settle-reads
-use Rattle.transmit.proofs.settle_alone.Reads as settle-alone-reads
 
--- src/lib.rt:186:8
 is-alone-requires : tie.Need-is-alone-requires
 is-alone-requires c κs = search needs
 
--- src/lib.rt:187:9
 settle-alone-requires : tie.Need-settle-alone-requires
 settle-alone-requires c κs = search needs
 
--- src/lib.rt:187:9
 same-length : tie.Need-same-length
 same-length c = search needs
 
--- src/lib.rt:187:9
 same-length-2 : tie.Need-same-length-2
 same-length-2 c = search needs
 
--- src/lib.rt:187:9
 returns : tie.Need-returns
 returns c =
     let a = c .before .before .before .before .before .before .before .before .before .before .before .before .before .before .args in
@@ -52,35 +39,27 @@ returns c =
     let e = alone-front (a .ring .now) (q .consumed) (a .count) (p .2) (sym (c .before .before .before .before .before .before .before .before .is-alone .ensures) ∙ c .before .before .before .before .before .before .before .if1 .taken) in
     rw (front-packet (a .grants .now) (a .window .now) q (a .ring .now) (a .frame .now) l waits 1 0 (e .0), e .1) (c .before .before .before .before .settle-alone .ensures)
 
--- src/lib.rt:190:11
 read-requires : tie.Need-read-requires
 read-requires c κs = search needs
 
--- src/lib.rt:192:21
 enum-told : tie.Need-enum-told
 enum-told c = search needs
 
--- src/lib.rt:199:29
 enum-told-2 : tie.Need-enum-told-2
 enum-told-2 c = search needs
 
--- src/lib.rt:199:13
 ask-event-requires : tie.Need-ask-event-requires
 ask-event-requires c κs = search needs
 
--- src/lib.rt:205:22
 enum-known-o : tie.Need-enum-known-o
 enum-known-o c = search needs
 
--- src/lib.rt:207:24
 own-part-requires : tie.Need-own-part-requires
 own-part-requires c κs = search needs
 
--- src/lib.rt:207:13
 array-write-sizes : tie.Need-array-write-sizes
 array-write-sizes c = search needs
 
--- src/lib.rt:208:13
 settle-requires : tie.Need-settle-requires
 settle-requires c κs =
     let a = c .before .before .before .before .before .before .before .before .before .before .before .before .before .before .before .before .before .before .args in
@@ -99,11 +78,9 @@ settle-requires c κs =
           (r .ensures .table (w .0) (w .1) (w .2) ∙ ap (λ x. splice (replicate 18 0) 1 (map size x)) later) (omega arith),
     )
 
--- src/lib.rt:175:1
 same-length-3 : tie.Need-same-length-3
 same-length-3 c = search needs
 
--- src/lib.rt:175:1
 returns-2 : tie.Need-returns-2
 returns-2 c =
     let a = c .before .before .before .before .before .before .before .before .before .before .before .before .args in
@@ -115,11 +92,9 @@ returns-2 c =
     rw (front-wrong (a .grants .now) (a .window .now) q (a .ring .now) (a .frame .now) l waits (front-misshapen l (sym (c .enum-told .given .1) ∙ r .ensures .answer)))
     (gives-refusal 5 q (a .ring .now) (a .frame .now) Misshapen refl)
 
--- src/lib.rt:175:1
 same-length-4 : tie.Need-same-length-4
 same-length-4 c = search needs
 
--- src/lib.rt:175:1
 returns-3 : tie.Need-returns-3
 returns-3 c =
     let a = c .before .before .before .before .before .before .before .before .before .before .before .before .before .before .before .before .args in
@@ -131,15 +106,12 @@ returns-3 c =
     rw (front-stops (a .grants .now) (a .window .now) q (a .ring .now) (a .frame .now) l waits (front-beginning l (sym (c .before .before .before .before .enum-told2 .given .1) ∙ r .ensures .answer)), c .before .before .ask-event .ensures)
     (gives-refusal 6 q (a .ring .now) (a .frame .now) Waiting refl)
 
--- src/lib.rt:175:1
 same-length-5 : tie.Need-same-length-5
 same-length-5 c = search needs
 
--- src/lib.rt:175:1
 same-length-6 : tie.Need-same-length-6
 same-length-6 c = search needs
 
--- src/lib.rt:175:1
 returns-4 : tie.Need-returns-4
 returns-4 c =
     let a = c .before .before .before .before .before .before .before .before .before .before .before .before .before .before .before .before .before .before .before .before .before .before .before .args in

@@ -1,6 +1,6 @@
 -- `words::copy` meets its contract. After i turns of the first loop `held` starts with the first i bytes of src; after k turns of
 -- the second dst starts with the first k bytes of `held`. Both are the same step, `copy-more`.
-use mathlib.Core.Path.{_≡_, refl, sym, ap, _∙_}
+use mathlib.Core.Path.{_≡_, refl, ap, _∙_}
 use mathlib.Core.List.{_++_}
 use Prim.Native.Nat.{_+_, _-_, _≤_}
 use native.Mathlib.Omega.{arith}
@@ -9,8 +9,6 @@ use borrow.Author.Needs.{needs}
 use Rattle.words.proofs.Word.{copy-more, held-more, copied-whole}
 use Rattle.words.proofs.copy.Statement.{statement}
 use Rattle.words.proofs.copy.Tie as tie
-use Rattle.words.proofs.copy.Reads as reads
-use Rattle.words.proofs.copy.Lts as lts
 
 abbrev Inv-loop : tie.InvT-loop
 Inv-loop src dst n held₀ i₀ held i = (i ≤ n) × (length held ≡ 4096) × (take i held ≡ take i src)
@@ -24,64 +22,50 @@ Inv-loop2 src dst₀ n held i k₀ dst k = (k ≤ n) × (length dst ≡ length d
 abbrev μ-loop2 : tie.MeasureT-loop2
 μ-loop2 src dst₀ n held i k₀ dst k = n - k
 
--- src/lib.rt:61:5
 loop-holds : tie.Need-loop-holds Inv-loop μ-loop Inv-loop2 μ-loop2
 loop-holds c = (omega arith, search needs, refl)
 
--- src/lib.rt:62:19
 shared-slice-read-held : tie.Need-shared-slice-read-held Inv-loop μ-loop Inv-loop2 μ-loop2
 shared-slice-read-held c = search needs
 
--- src/lib.rt:62:9
 array-write-held : tie.Need-array-write-held Inv-loop μ-loop Inv-loop2 μ-loop2
 array-write-held c = search needs
 
--- src/lib.rt:63:9
 add-i : tie.Need-add-i Inv-loop μ-loop Inv-loop2 μ-loop2
 add-i c = search needs
 
--- src/lib.rt:61:5
 loop-less : tie.Need-loop-less Inv-loop μ-loop Inv-loop2 μ-loop2
 loop-less c = search needs
 
--- src/lib.rt:61:5
 loop-again : tie.Need-loop-again Inv-loop μ-loop Inv-loop2 μ-loop2
 loop-again c =
     let l = c .before .before .loop in
     (omega arith, simp length-set (omega arith), held-more (l .held) (c .before .before .before .args .src .now) (l .i) (omega arith) (omega arith) (l .inv .2))
 
--- src/lib.rt:66:5
 loop2-holds : tie.Need-loop2-holds Inv-loop μ-loop Inv-loop2 μ-loop2
 loop2-holds c = (omega arith, refl, refl)
 
--- src/lib.rt:67:18
 array-read-dst : tie.Need-array-read-dst Inv-loop μ-loop Inv-loop2 μ-loop2
 array-read-dst c = search needs
 
--- src/lib.rt:67:9
 slice-write-dst : tie.Need-slice-write-dst Inv-loop μ-loop Inv-loop2 μ-loop2
 slice-write-dst c = search needs
 
--- src/lib.rt:68:9
 add-k : tie.Need-add-k Inv-loop μ-loop Inv-loop2 μ-loop2
 add-k c = search needs
 
--- src/lib.rt:66:5
 loop2-less : tie.Need-loop2-less Inv-loop μ-loop Inv-loop2 μ-loop2
 loop2-less c = search needs
 
--- src/lib.rt:66:5
 loop2-again : tie.Need-loop2-again Inv-loop μ-loop Inv-loop2 μ-loop2
 loop2-again c =
     let l = c .before .loop2 in
     let held = c .before .before .before .loop .held in
     (omega arith, simp length-set (omega arith), ap (λ d. set d (l .k) (getD held (l .k) 0)) (l .inv .2) ∙ copy-more _ held (l .k) (omega arith) (omega arith))
 
--- src/lib.rt:54:1
 same-length : tie.Need-same-length Inv-loop μ-loop Inv-loop2 μ-loop2
 same-length c = search needs
 
--- src/lib.rt:54:1
 returns : tie.Need-returns Inv-loop μ-loop Inv-loop2 μ-loop2
 returns c =
     let l = c .before .loop2 in

@@ -5,34 +5,25 @@ use Rattle.words.specs.Word.{u16Bytes}
 use Rattle.words.proofs.Word.{two-stores}
 use Rattle.words.proofs.put_u16.Statement.{statement}
 use Rattle.words.proofs.put_u16.Tie as tie
-use Rattle.words.proofs.put_u16.Reads as reads
-use Rattle.words.proofs.put_u16.Lts as lts
 
--- src/lib.rt:29:13
 cast-b : tie.Need-cast-b
 cast-b c = search needs
 
--- src/lib.rt:29:5
 slice-write-b : tie.Need-slice-write-b
 slice-write-b c = search needs
 
--- src/lib.rt:30:17
 cast-b-2 : tie.Need-cast-b-2
 cast-b-2 c = search needs
 
--- src/lib.rt:30:7
 add-b : tie.Need-add-b
 add-b c = search needs
 
--- src/lib.rt:30:5
 slice-write-b-2 : tie.Need-slice-write-b-2
 slice-write-b-2 c = simp length-set (omega arith)
 
--- src/lib.rt:25:1
 same-length : tie.Need-same-length
 same-length c = search needs
 
--- src/lib.rt:25:1
 returns : tie.Need-returns
 unfolding u16Bytes
 returns c = two-stores (c .args .b .now) (c .args .at) _ _ (search needs)

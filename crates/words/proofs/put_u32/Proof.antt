@@ -5,58 +5,43 @@ use Rattle.words.specs.Word.{u32Bytes}
 use Rattle.words.proofs.Word.{four-stores}
 use Rattle.words.proofs.put_u32.Statement.{statement}
 use Rattle.words.proofs.put_u32.Tie as tie
-use Rattle.words.proofs.put_u32.Reads as reads
-use Rattle.words.proofs.put_u32.Lts as lts
 
--- src/lib.rt:38:13
 cast-b : tie.Need-cast-b
 cast-b c = search needs
 
--- src/lib.rt:38:5
 slice-write-b : tie.Need-slice-write-b
 slice-write-b c = search needs
 
--- src/lib.rt:39:17
 cast-b-2 : tie.Need-cast-b-2
 cast-b-2 c = search needs
 
--- src/lib.rt:39:7
 add-b : tie.Need-add-b
 add-b c = search needs
 
--- src/lib.rt:39:5
 slice-write-b-2 : tie.Need-slice-write-b-2
 slice-write-b-2 c = simp length-set (omega arith)
 
--- src/lib.rt:40:17
 cast-b-3 : tie.Need-cast-b-3
 cast-b-3 c = search needs
 
--- src/lib.rt:40:7
 add-b-2 : tie.Need-add-b-2
 add-b-2 c = search needs
 
--- src/lib.rt:40:5
 slice-write-b-3 : tie.Need-slice-write-b-3
 slice-write-b-3 c = simp length-set (omega arith)
 
--- src/lib.rt:41:17
 cast-b-4 : tie.Need-cast-b-4
 cast-b-4 c = search needs
 
--- src/lib.rt:41:7
 add-b-3 : tie.Need-add-b-3
 add-b-3 c = search needs
 
--- src/lib.rt:41:5
 slice-write-b-4 : tie.Need-slice-write-b-4
 slice-write-b-4 c = simp length-set (omega arith)
 
--- src/lib.rt:34:1
 same-length : tie.Need-same-length
 same-length c = search needs
 
--- src/lib.rt:34:1
 returns : tie.Need-returns
 unfolding u32Bytes
 returns c = four-stores (c .args .b .now) (c .args .at) _ _ _ _ (search needs)

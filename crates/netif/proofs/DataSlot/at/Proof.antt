@@ -6,20 +6,13 @@ use Rattle.ring.proofs.Ring.{slot-length}
 use Rattle.netif.specs.Decode.{dataOf}
 use Rattle.netif.proofs.DataSlot.at.Statement.{statement}
 use Rattle.netif.proofs.DataSlot.at.Tie as tie
-use Rattle.netif.proofs.DataSlot.at.Reads as reads
-use Rattle.netif.proofs.DataSlot.at.Lts as lts
-use Rattle.netif.proofs.DataSlot.decode.Reads as decode-reads
-use Rattle.ring.proofs.slot.Reads as slot-reads
 
--- src/lib.rt:48:22
 slot-requires : tie.Need-slot-requires
 slot-requires c κs = search needs
 
--- src/lib.rt:48:9
 decode-requires : tie.Need-decode-requires
 decode-requires c κs = let a = c .before .before .args in ap length (c .slot .ensures) ∙ slot-length 12 256 (omega arith) (a .page .now) (omega arith) (a .n)
 
--- src/lib.rt:44:5
 returns : tie.Need-returns
 returns c = c .decode .ensures ∙ ap dataOf (c .before .slot .ensures)
 

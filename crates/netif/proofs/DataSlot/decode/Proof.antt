@@ -3,32 +3,22 @@ use Rattle.netif.specs.Slot.{gref, offset, flags, ident, size}
 use Rattle.netif.specs.Decode.{dataOf}
 use Rattle.netif.proofs.DataSlot.decode.Statement.{statement}
 use Rattle.netif.proofs.DataSlot.decode.Tie as tie
-use Rattle.netif.proofs.DataSlot.decode.Reads as reads
-use Rattle.netif.proofs.DataSlot.decode.Lts as lts
-use Rattle.words.proofs.u16_at.Reads as u16-at-reads
-use Rattle.words.proofs.u32_at.Reads as u32-at-reads
 
--- src/lib.rt:35:19
 u32-at-requires : tie.Need-u32-at-requires
 u32-at-requires c κs = search needs
 
--- src/lib.rt:36:21
 u16-at-requires : tie.Need-u16-at-requires
 u16-at-requires c κs = search needs
 
--- src/lib.rt:37:20
 u16-at-requires-2 : tie.Need-u16-at-requires-2
 u16-at-requires-2 c κs = search needs
 
--- src/lib.rt:38:17
 u16-at-requires-3 : tie.Need-u16-at-requires-3
 u16-at-requires-3 c κs = search needs
 
--- src/lib.rt:39:19
 u16-at-requires-4 : tie.Need-u16-at-requires-4
 u16-at-requires-4 c κs = search needs
 
--- src/lib.rt:30:5
 returns : tie.Need-returns
 unfolding dataOf gref offset flags ident size
 returns c = rw (c .before .before .before .before .u32-at .ensures, c .before .before .before .u16-at .ensures, c .before .before .u16-at2 .ensures, c .before .u16-at3 .ensures, c .u16-at4 .ensures)

@@ -3,27 +3,19 @@ use Rattle.netif.specs.Slot.{gsoSize, gsoType}
 use Rattle.netif.specs.Decode.{extraOf}
 use Rattle.netif.proofs.Extra.decode.Statement.{statement}
 use Rattle.netif.proofs.Extra.decode.Tie as tie
-use Rattle.netif.proofs.Extra.decode.Reads as reads
-use Rattle.netif.proofs.Extra.decode.Lts as lts
-use Rattle.words.proofs.u16_at.Reads as u16-at-reads
 
--- src/lib.rt:98:19
 shared-slice-read-t3 : tie.Need-shared-slice-read-t3
 shared-slice-read-t3 c = search needs
 
--- src/lib.rt:99:20
 shared-slice-read-t5 : tie.Need-shared-slice-read-t5
 shared-slice-read-t5 c = search needs
 
--- src/lib.rt:100:23
 u16-at-requires : tie.Need-u16-at-requires
 u16-at-requires c κs = search needs
 
--- src/lib.rt:101:23
 shared-slice-read-t8 : tie.Need-shared-slice-read-t8
 shared-slice-read-t8 c = search needs
 
--- src/lib.rt:93:5
 returns : tie.Need-returns
 unfolding extraOf gsoSize gsoType
 returns c = rw (c .before .u16-at .ensures)

@@ -1,5 +1,5 @@
 use borrow.Author.Needs.{needs}
-use mathlib.Core.Path.{_≡_, sym, ap, _∙_}
+use mathlib.Core.Path.{ap, _∙_}
 use mathlib.Core.List.{_++_}
 use Prim.Native.Nat.{_+_, _-_}
 use native.Mathlib.Omega.{arith}
@@ -10,32 +10,22 @@ use Rattle.grant.specs.Grant.{pagePart}
 use Rattle.transmit.proofs.Joining.{part-size}
 use Rattle.transmit.proofs.gathering.copy_part.Statement.{statement}
 use Rattle.transmit.proofs.gathering.copy_part.Tie as tie
-use Rattle.transmit.proofs.gathering.copy_part.Reads as reads
-use Rattle.transmit.proofs.gathering.copy_part.Lts as lts
-use Rattle.grant.proofs.part.Reads as part-reads
-use Rattle.words.proofs.copy.Reads as copy-reads
 
--- src/gathering.rt:14:15
 add-end : tie.Need-add-end
 add-end c = search needs
 
--- src/gathering.rt:15:17
 part-requires : tie.Need-part-requires
 part-requires c κs = search needs
 
--- src/gathering.rt:15:58
 sub-copy : tie.Need-sub-copy
 sub-copy c = search needs
 
--- src/gathering.rt:15:58
 part-copy-start : tie.Need-part-copy-start
 part-copy-start c = search needs
 
--- src/gathering.rt:15:58
 part-copy-end : tie.Need-part-copy-end
 part-copy-end c = search needs
 
--- src/gathering.rt:15:5
 copy-requires : tie.Need-copy-requires
 copy-requires c κs =
     let a = c .before .before .before .before .args in
@@ -43,11 +33,9 @@ copy-requires c κs =
     let e = ap length (c .before .part .ensures) ∙ part-size (a .window .now) (a .page) (a .offset) (a .size) (p .0) (p .1) in
     (simp (length-take, length-drop) (omega (arith, e)), omega (arith, e))
 
--- src/gathering.rt:10:1
 same-length : tie.Need-same-length
 same-length c = search needs
 
--- src/gathering.rt:10:1
 returns : tie.Need-returns
 returns c =
     let a = c .before .before .before .before .before .before .before .args in

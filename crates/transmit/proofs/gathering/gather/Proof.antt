@@ -1,22 +1,16 @@
 -- `gathering::gather` meets its contract: after i turns the first i parts stand joined at the front of the frame buffer, and the next one
 -- goes right behind them.
 use mathlib.Core.Path.{_≡_, refl, sym, ap, _∙_}
-use mathlib.Core.List.{_++_}
-use Prim.Native.Nat.{_+_, _-_, _^_, _≤_, _<_}
+use Prim.Native.Nat.{_-_, _^_, _≤_, _<_}
 use native.Mathlib.Omega.{arith}
-use lib.ListN.{length, take, getD, length-append}
+use lib.ListN.{length, take}
 use borrow.Author.Needs.{needs}
 use Rattle.words.specs.Word.{splice}
-use Rattle.words.proofs.Word.{splice-none, splice-join, splice-length}
-use Rattle.grant.specs.Grant.{pagePart}
+use Rattle.words.proofs.Word.{splice-none, splice-length}
 use Rattle.transmit.specs.Plan.{joined, InWindow}
 use Rattle.transmit.proofs.Joining.{next-length, next-room, next-frame}
 use Rattle.transmit.proofs.gathering.gather.Statement.{statement}
 use Rattle.transmit.proofs.gathering.gather.Tie as tie
-use Rattle.transmit.proofs.gathering.gather.Reads as reads
-use Rattle.transmit.proofs.gathering.gather.Lts as lts
-use Rattle.transmit.proofs.gathering.copy_part.Reads as copy-part-reads
-use Rattle.transmit.proofs.gathering.wide.Reads as wide-reads
 
 abbrev Inv-loop : tie.InvT-loop
 Inv-loop window count pages offsets sizes frame₀ i₀ at₀ frame i at =
@@ -28,35 +22,27 @@ Inv-loop window count pages offsets sizes frame₀ i₀ at₀ frame i at =
 abbrev μ-loop : tie.MeasureT-loop
 μ-loop window count pages offsets sizes frame₀ i₀ at₀ frame i at = count - i
 
--- src/gathering.rt:32:5
 loop-holds : tie.Need-loop-holds Inv-loop μ-loop
 loop-holds c = (omega arith, refl, sym (splice-none _ 0), refl)
 
--- src/gathering.rt:33:20
 mul-size : tie.Need-mul-size Inv-loop μ-loop
 mul-size c = search needs
 
--- src/gathering.rt:33:20
 element-copy-out-size : tie.Need-element-copy-out-size Inv-loop μ-loop
 element-copy-out-size c = search needs
 
--- src/gathering.rt:34:27
 mul-copy-part : tie.Need-mul-copy-part Inv-loop μ-loop
 mul-copy-part c = search needs
 
--- src/gathering.rt:34:27
 element-copy-out-copy-part : tie.Need-element-copy-out-copy-part Inv-loop μ-loop
 element-copy-out-copy-part c = search needs
 
--- src/gathering.rt:34:37
 mul-copy-part-2 : tie.Need-mul-copy-part-2 Inv-loop μ-loop
 mul-copy-part-2 c = search needs
 
--- src/gathering.rt:34:37
 element-copy-out-copy-part-2 : tie.Need-element-copy-out-copy-part-2 Inv-loop μ-loop
 element-copy-out-copy-part-2 c = search needs
 
--- src/gathering.rt:34:9
 copy-part-requires : tie.Need-copy-part-requires Inv-loop μ-loop
 unfolding InWindow
 copy-part-requires c κs =
@@ -66,11 +52,9 @@ copy-part-requires c κs =
     let k : l .i < a .count = omega arith in
     (p .4 (l .i) k .0, p .4 (l .i) k .1, omega (arith, l .inv .1, l .inv .3, next-room (a .window .now) (a .pages .now) (a .offsets .now) (a .sizes .now) (a .frame .now) (a .count) (p .1) (p .2) (p .3) (p .4) (p .5) (l .i) k))
 
--- src/gathering.rt:35:15
 wide-requires : tie.Need-wide-requires Inv-loop μ-loop
 wide-requires c κs = search needs
 
--- src/gathering.rt:35:9
 add-at : tie.Need-add-at Inv-loop μ-loop
 add-at c =
     let a = c .before .before .before .before .before .before .before .before .before .before .before .before .args in
@@ -80,15 +64,12 @@ add-at c =
     let size : length (a .frame .now) < 2 ^ 64 = search needs in
     record { fits = omega (arith, c .wide .ensures, l .inv .1, next-room (a .window .now) (a .pages .now) (a .offsets .now) (a .sizes .now) (a .frame .now) (a .count) (p .1) (p .2) (p .3) (p .4) (p .5) (l .i) k) }
 
--- src/gathering.rt:36:9
 add-i : tie.Need-add-i Inv-loop μ-loop
 add-i c = search needs
 
--- src/gathering.rt:32:5
 loop-less : tie.Need-loop-less Inv-loop μ-loop
 loop-less c = search needs
 
--- src/gathering.rt:32:5
 loop-again : tie.Need-loop-again Inv-loop μ-loop
 loop-again c =
     let a = c .before .before .before .before .before .before .before .before .before .before .before .before .args in
@@ -103,11 +84,9 @@ loop-again c =
       ap length e ∙ splice-length (a .frame .now) 0 _ (omega (arith, n, next-room (a .window .now) (a .pages .now) (a .offsets .now) (a .sizes .now) (a .frame .now) (a .count) (p .1) (p .2) (p .3) (p .4) (p .5) (l .i) k)),
     )
 
--- src/gathering.rt:26:1
 same-length : tie.Need-same-length Inv-loop μ-loop
 same-length c = search needs
 
--- src/gathering.rt:26:1
 returns : tie.Need-returns Inv-loop μ-loop
 returns c =
     let l = c .before .loop in

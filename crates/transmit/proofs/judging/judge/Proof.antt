@@ -1,57 +1,35 @@
 -- `judging::judge` meets its contract: the verdicts on the sizes, on the data slots and on the gso fields, of which the first bad one wins.
-use mathlib.Core.Path.{_≡_, refl, sym, ap, _∙_}
-use mathlib.Core.List.{_∷_, map}
-use Prim.Native.Nat.{ℕ, suc, _+_, _-_, _≤_, _<_}
+use mathlib.Core.Path.{_≡_, sym, ap, _∙_}
+use Prim.Native.Nat.{ℕ, _-_}
 use native.Mathlib.Omega.{arith}
-use lib.ListN.{length, take, set}
-use Rattle.ring.proofs.Ring.{slots-length}
-use Rattle.netif.specs.Slot.{Slot, offset}
-use Rattle.netif.specs.Packet.{firstOf, laterOf}
-use Rattle.netif.specs.Decode.{dataOf}
-use Rattle.netif.specs.declared.DataSlot.{DataSlot}
-use Rattle.netif.specs.declared.Verdict.the-variants.{Good, Bad}
-use Rattle.transmit.specs.Judge.{ownPart, judgeSizes, judgeGso, judgeLater}
-use Rattle.transmit.specs.Plan.{datasOf, slotPage, SizesOf}
-use Rattle.transmit.specs.Code.{packetAt, laterAt}
-use Rattle.transmit.proofs.Plans.{slot-unfit, slot-outside, slot-at, source-of-slot, packet-later, datas-count, head-of, total-of, sum-of, gso-size-of, gso-type-of, slots-bad, slots-later, judge-sizes-bad, judge-slots-bad, judge-gso}
+use Rattle.transmit.specs.Judge.{judgeSizes, judgeGso}
+use Rattle.transmit.specs.Code.{packetAt}
+use Rattle.transmit.proofs.Plans.{total-of, sum-of, gso-size-of, gso-type-of, judge-sizes-bad, judge-slots-bad, judge-gso}
 use borrow.Author.Needs.{needs}
 use Rattle.transmit.proofs.judging.judge.Statement.{statement}
 use Rattle.transmit.proofs.judging.judge.Tie as tie
-use Rattle.transmit.proofs.judging.judge.Reads as reads
-use Rattle.transmit.proofs.judging.judge.Lts as lts
-use Rattle.transmit.proofs.judging.judge_gso.Reads as judge-gso-reads
-use Rattle.transmit.proofs.judging.judge_sizes.Reads as judge-sizes-reads
-use Rattle.transmit.proofs.judging.judge_slots.Reads as judge-slots-reads
 
--- src/judging.rt:134:11
 judge-sizes-requires : tie.Need-judge-sizes-requires
 judge-sizes-requires c κs = search needs
 
--- src/judging.rt:135:24
 enum-known-cause : tie.Need-enum-known-cause
 enum-known-cause c = search needs
 
--- src/judging.rt:136:67
 enum-told : tie.Need-enum-told
 enum-told c = search needs
 
--- src/judging.rt:136:32
 judge-slots-requires : tie.Need-judge-slots-requires
 judge-slots-requires c κs = search needs
 
--- src/judging.rt:137:28
 enum-known-cause-2 : tie.Need-enum-known-cause-2
 enum-known-cause-2 c = search needs
 
--- src/judging.rt:138:30
 enum-told-2 : tie.Need-enum-told-2
 enum-told-2 c = search needs
 
--- src/judging.rt:138:30
 judge-gso-requires : tie.Need-judge-gso-requires
 judge-gso-requires c κs = search needs
 
--- src/judging.rt:120:1
 returns : tie.Need-returns
 returns c =
     let a = c .before .before .before .before .before .before .before .before .args in
@@ -66,7 +44,6 @@ returns c =
       offsetsAre = λ g. absurd (let z : _≡_ {A = ℕ} 0 1 = cc in omega arith);
     }
 
--- src/judging.rt:120:1
 returns-2 : tie.Need-returns-2
 returns-2 c =
     let a = c .before .before .before .before .before .before .before .before .before .before .before .before .before .args in
@@ -82,7 +59,6 @@ returns-2 c =
       offsetsAre = λ g. absurd (let z : _≡_ {A = ℕ} 0 1 = cc in omega arith);
     }
 
--- src/judging.rt:120:1
 returns-3 : tie.Need-returns-3
 returns-3 c =
     let a = c .before .before .before .before .before .before .before .before .before .before .before .before .before .args in

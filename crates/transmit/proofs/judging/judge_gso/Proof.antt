@@ -2,26 +2,19 @@ use Rattle.transmit.proofs.Plans.{gso-zero, gso-one, gso-two, gso-other
 use borrow.Author.Needs.{needs}
 use Rattle.transmit.proofs.judging.judge_gso.Statement.{statement}
 use Rattle.transmit.proofs.judging.judge_gso.Tie as tie
-use Rattle.transmit.proofs.judging.judge_gso.Reads as reads
-use Rattle.transmit.proofs.judging.judge_gso.Lts as lts
 
--- src/judging.rt:35:9
 returns : tie.Need-returns
 returns c = search needs
 
--- src/judging.rt:38:9
 returns-2 : tie.Need-returns-2
 returns-2 c = let a = c .before .before .args in gso-zero (a .extras) (a .gso-size) (a .gso-type) (c .before .if1 .left) (c .if2 .taken)
 
--- src/judging.rt:41:9
 returns-3 : tie.Need-returns-3
 returns-3 c = let a = c .before .before .before .args in gso-one (a .extras) (a .gso-size) (a .gso-type) (c .before .if2 .left) (c .if3 .taken)
 
--- src/judging.rt:44:9
 returns-4 : tie.Need-returns-4
 returns-4 c = let a = c .before .before .before .before .args in gso-two (a .extras) (a .gso-size) (a .gso-type) (c .before .before .if2 .left) (c .if4 .taken)
 
--- src/judging.rt:31:1
 returns-5 : tie.Need-returns-5
 returns-5 c = let a = c .before .before .before .before .args in gso-other (a .extras) (a .gso-size) (a .gso-type) (c .before .before .before .if1 .left) (c .before .before .if2 .left) (c .before .if3 .left) (c .if4 .left)
 

@@ -1,29 +1,23 @@
 -- `judging::judge_later` meets its contract. The invariant: the verdict on all later data slots is that on those left, since those passed
 -- are good; their pages and offsets are in the tables. Each way out is one law of `Plans`.
-use mathlib.Core.Path.{_≡_, refl, sym, ap, _∙_}
-use mathlib.Core.List.{[], map}
+use mathlib.Core.Path.{_≡_, sym, ap, _∙_}
+use mathlib.Core.List.{map}
 use Prim.Native.Nat.{ℕ, suc, _+_, _-_, _≤_, _<_}
 use native.Mathlib.Omega.{arith}
 use native.Mathlib.Nat.{add-zero}
-use lib.ListN.{length, set, getD}
+use lib.ListN.{set}
 use borrow.Author.Needs.{needs}
 use Rattle.words.specs.Word.{splice}
 use Rattle.words.proofs.Word.{splice-none}
-use Rattle.ring.specs.Ring.{slotAt, slotsFrom}
-use Rattle.netif.specs.Slot.{size, offset}
+use Rattle.ring.specs.Ring.{slotsFrom}
+use Rattle.netif.specs.Slot.{offset}
 use Rattle.netif.proofs.Loop.{column-next}
-use Rattle.netif.specs.declared.Verdict.the-variants.{Good, Bad}
 use Rattle.transmit.specs.Judge.{judgeLater}
-use Rattle.transmit.specs.Plan.{slotPage, SizesOf}
+use Rattle.transmit.specs.Plan.{slotPage}
 use Rattle.transmit.specs.Code.{laterAt}
 use Rattle.transmit.proofs.Plans.{later-none, turn-unfit, turn-outside, turn-good, turn-page, turn-offset}
 use Rattle.transmit.proofs.judging.judge_later.Statement.{statement}
 use Rattle.transmit.proofs.judging.judge_later.Tie as tie
-use Rattle.transmit.proofs.judging.judge_later.Reads as reads
-use Rattle.transmit.proofs.judging.judge_later.Lts as lts
-use Rattle.grant.proofs.lookup.Reads as lookup-reads
-use Rattle.netif.proofs.DataSlot.at.Reads as at-reads
-use Rattle.ring.proofs.ahead.Reads as ahead-reads
 
 abbrev Inv-loop : tie.InvT-loop
 Inv-loop ring first extras later sizes pages₀ offsets₀ grants window i₀ pages offsets i =
@@ -35,7 +29,6 @@ Inv-loop ring first extras later sizes pages₀ offsets₀ grants window i₀ pa
 abbrev μ-loop : tie.MeasureT-loop
 μ-loop ring first extras later sizes pages₀ offsets₀ grants window i₀ pages offsets i = later - i
 
--- src/judging.rt:72:5
 loop-holds : tie.Need-loop-holds Inv-loop μ-loop
 loop-holds c =
     let a = c .before .before .before .args in
@@ -46,55 +39,42 @@ loop-holds c =
       sym (splice-none _ 1),
     )
 
--- src/judging.rt:73:58
 add-ahead : tie.Need-add-ahead Inv-loop μ-loop
 add-ahead c = search needs
 
--- src/judging.rt:73:58
 add-ahead-2 : tie.Need-add-ahead-2 Inv-loop μ-loop
 add-ahead-2 c = search needs
 
--- src/judging.rt:73:39
 ahead-requires : tie.Need-ahead-requires Inv-loop μ-loop
 ahead-requires c κs = search needs
 
--- src/judging.rt:73:13
 at-requires : tie.Need-at-requires Inv-loop μ-loop
 at-requires c κs = search needs
 
--- src/judging.rt:74:19
 add-at : tie.Need-add-at Inv-loop μ-loop
 add-at c = search needs
 
--- src/judging.rt:74:18
 cast-at : tie.Need-cast-at Inv-loop μ-loop
 cast-at c = search needs
 
--- src/judging.rt:75:69
 mul-lookup : tie.Need-mul-lookup Inv-loop μ-loop
 mul-lookup c = search needs
 
--- src/judging.rt:75:69
 element-copy-out-lookup : tie.Need-element-copy-out-lookup Inv-loop μ-loop
 element-copy-out-lookup c = search needs
 
--- src/judging.rt:75:15
 lookup-requires : tie.Need-lookup-requires Inv-loop μ-loop
 lookup-requires c κs = search needs
 
--- src/judging.rt:77:56
 enum-told : tie.Need-enum-told Inv-loop μ-loop
 enum-told c = search needs
 
--- src/judging.rt:77:56
 add-t23 : tie.Need-add-t23 Inv-loop μ-loop
 add-t23 c = search needs
 
--- src/judging.rt:77:56
 add-t24 : tie.Need-add-t24 Inv-loop μ-loop
 add-t24 c = search needs
 
--- src/judging.rt:77:17
 returns : tie.Need-returns Inv-loop μ-loop
 returns c =
     let a = c .before .before .before .before .before .before .before .before .before .before .before .args in
@@ -109,19 +89,15 @@ returns c =
       offsetsAre = λ h. absurd (let z : _≡_ {A = ℕ} 0 1 = cc in omega arith);
     }
 
--- src/judging.rt:80:56
 enum-told-2 : tie.Need-enum-told-2 Inv-loop μ-loop
 enum-told-2 c = search needs
 
--- src/judging.rt:80:56
 add-t25 : tie.Need-add-t25 Inv-loop μ-loop
 add-t25 c = search needs
 
--- src/judging.rt:80:56
 add-t26 : tie.Need-add-t26 Inv-loop μ-loop
 add-t26 c = search needs
 
--- src/judging.rt:80:17
 returns-2 : tie.Need-returns-2 Inv-loop μ-loop
 returns-2 c =
     let a = c .before .before .before .before .before .before .before .before .before .before .before .args in
@@ -136,35 +112,27 @@ returns-2 c =
       offsetsAre = λ h. absurd (let z : _≡_ {A = ℕ} 0 1 = cc in omega arith);
     }
 
--- src/judging.rt:82:24
 enum-known-page : tie.Need-enum-known-page Inv-loop μ-loop
 enum-known-page c = search needs
 
--- src/judging.rt:83:17
 mul-pages : tie.Need-mul-pages Inv-loop μ-loop
 mul-pages c = search needs
 
--- src/judging.rt:83:17
 element-write-pages : tie.Need-element-write-pages Inv-loop μ-loop
 element-write-pages c = search needs
 
--- src/judging.rt:84:17
 mul-offsets : tie.Need-mul-offsets Inv-loop μ-loop
 mul-offsets c = search needs
 
--- src/judging.rt:84:17
 element-write-offsets : tie.Need-element-write-offsets Inv-loop μ-loop
 element-write-offsets c = search needs
 
--- src/judging.rt:87:9
 add-i : tie.Need-add-i Inv-loop μ-loop
 add-i c = search needs
 
--- src/judging.rt:72:5
 loop-less : tie.Need-loop-less Inv-loop μ-loop
 loop-less c = search needs
 
--- src/judging.rt:72:5
 loop-again : tie.Need-loop-again Inv-loop μ-loop
 loop-again c =
     let a = c .before .before .before .before .before .before .before .before .before .before .before .before .args in
@@ -182,7 +150,6 @@ loop-again c =
           ∙ column-next (a .ring .now) (a .first) (n .result) (a .extras + 1) (l .i) (n .ensures) offset (s .result .offset) (turn-offset (a .grants .now) (a .window .now) (a .ring .now) (a .first) (a .extras) (a .later) (l .i) k (a .sizes .now) (c .before .before .before .before .before .before .before .before .before .before .before .before .pre .3) (n .result) (n .ensures) (s .result) (s .ensures) (r .result) (r .ensures)) (a .offsets .now) (omega (arith, c .before .before .before .before .before .before .before .before .before .before .before .before .pre)),
     )
 
--- src/judging.rt:57:1
 returns-3 : tie.Need-returns-3 Inv-loop μ-loop
 returns-3 c =
     let a = c .before .before .before .before .before .args in

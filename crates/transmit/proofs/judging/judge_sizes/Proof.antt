@@ -2,25 +2,19 @@ use borrow.Author.Tests.{lt-ltb, le-ltb}
 use Rattle.transmit.specs.Judge.{judgeSizes}
 use Rattle.transmit.proofs.judging.judge_sizes.Statement.{statement}
 use Rattle.transmit.proofs.judging.judge_sizes.Tie as tie
-use Rattle.transmit.proofs.judging.judge_sizes.Reads as reads
-use Rattle.transmit.proofs.judging.judge_sizes.Lts as lts
 
--- src/judging.rt:19:9
 returns : tie.Need-returns
 unfolding judgeSizes
 returns c = rw (lt-ltb _ _ (c .if1 .taken))
 
--- src/judging.rt:22:9
 returns-2 : tie.Need-returns-2
 unfolding judgeSizes
 returns-2 c = rw (le-ltb _ _ (c .before .if1 .left), lt-ltb _ _ (c .if2 .taken))
 
--- src/judging.rt:25:9
 returns-3 : tie.Need-returns-3
 unfolding judgeSizes
 returns-3 c = rw (le-ltb _ _ (c .before .before .if1 .left), le-ltb _ _ (c .before .if2 .left), lt-ltb _ _ (c .if3 .taken))
 
--- src/judging.rt:15:1
 returns-4 : tie.Need-returns-4
 unfolding judgeSizes
 returns-4 c = rw (le-ltb _ _ (c .before .before .if1 .left), le-ltb _ _ (c .before .if2 .left), le-ltb _ _ (c .if3 .left))

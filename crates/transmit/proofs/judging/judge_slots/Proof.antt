@@ -1,64 +1,45 @@
 -- `judging::judge_slots` meets its contract: the first slot's verdict by the lookup's answer, then the later ones'.
-use mathlib.Core.Path.{_≡_, refl, sym, ap, _∙_}
-use mathlib.Core.List.{_∷_, map}
-use Prim.Native.Nat.{ℕ, suc, _+_, _-_, _≤_, _<_}
+use mathlib.Core.Path.{_≡_, sym, ap, _∙_}
+use Prim.Native.Nat.{ℕ, suc, _-_}
 use native.Mathlib.Omega.{arith}
-use lib.ListN.{length, take, set, length-set}
-use Rattle.ring.proofs.Ring.{slots-length}
-use Rattle.netif.specs.Slot.{Slot, offset}
-use Rattle.netif.specs.Packet.{firstOf, laterOf}
-use Rattle.netif.specs.Decode.{dataOf}
-use Rattle.netif.specs.declared.DataSlot.{DataSlot}
-use Rattle.netif.specs.declared.Verdict.the-variants.{Good, Bad}
-use Rattle.transmit.specs.Judge.{ownPart, judgeSizes, judgeGso, judgeLater}
-use Rattle.transmit.specs.Plan.{datasOf, slotPage, SizesOf}
-use Rattle.transmit.specs.Code.{packetAt, laterAt}
-use Rattle.transmit.proofs.Plans.{slot-unfit, slot-outside, slot-at, source-of-slot, packet-later, datas-count, head-of, total-of, sum-of, gso-size-of, gso-type-of, own-held, later-held, column-whole, head-offset, slots-bad, slots-later, judge-sizes-bad, judge-slots-bad, judge-gso}
+use lib.ListN.{length-set}
+use Rattle.netif.specs.Slot.{offset}
+use Rattle.netif.specs.Packet.{firstOf}
+use Rattle.transmit.specs.Judge.{ownPart, judgeLater}
+use Rattle.transmit.specs.Plan.{slotPage}
+use Rattle.transmit.specs.Code.{packetAt}
+use Rattle.transmit.proofs.Plans.{slot-unfit, slot-outside, slot-at, source-of-slot, packet-later, head-of, own-held, later-held, column-whole, head-offset, slots-bad, slots-later}
 use borrow.Author.Needs.{needs}
 use Rattle.transmit.proofs.judging.judge_slots.Statement.{statement}
 use Rattle.transmit.proofs.judging.judge_slots.Tie as tie
-use Rattle.transmit.proofs.judging.judge_slots.Reads as reads
-use Rattle.transmit.proofs.judging.judge_slots.Lts as lts
-use Rattle.grant.proofs.lookup.Reads as lookup-reads
-use Rattle.transmit.proofs.judging.judge_later.Reads as judge-later-reads
 
--- src/judging.rt:107:65
 element-copy-out-lookup : tie.Need-element-copy-out-lookup
 element-copy-out-lookup c = search needs
 
--- src/judging.rt:107:11
 lookup-requires : tie.Need-lookup-requires
 lookup-requires c κs = search needs
 
--- src/judging.rt:108:26
 enum-told : tie.Need-enum-told
 enum-told c = search needs
 
--- src/judging.rt:109:28
 enum-told-2 : tie.Need-enum-told-2
 enum-told-2 c = search needs
 
--- src/judging.rt:110:20
 enum-known-page : tie.Need-enum-known-page
 enum-known-page c = search needs
 
--- src/judging.rt:111:13
 element-write-pages : tie.Need-element-write-pages
 element-write-pages c = search needs
 
--- src/judging.rt:112:13
 element-write-offsets : tie.Need-element-write-offsets
 element-write-offsets c = search needs
 
--- src/judging.rt:113:25
 sub-later : tie.Need-sub-later
 sub-later c = search needs
 
--- src/judging.rt:113:25
 sub-later-2 : tie.Need-sub-later-2
 sub-later-2 c = search needs
 
--- src/judging.rt:114:13
 judge-later-requires : tie.Need-judge-later-requires
 judge-later-requires c κs =
     let a = c .before .before .before .before .before .before .before .before .before .before .before .before .before .args in
@@ -76,7 +57,6 @@ judge-later-requires c κs =
       simp length-set (p .4),
     )
 
--- src/judging.rt:93:1
 returns : tie.Need-returns
 returns c =
     let a = c .before .before .before .before .before .before .before .before .args in
@@ -91,7 +71,6 @@ returns c =
       offsetsAre = λ h. absurd (let z : _≡_ {A = ℕ} 0 1 = cc in omega arith);
     }
 
--- src/judging.rt:93:1
 returns-2 : tie.Need-returns-2
 returns-2 c =
     let a = c .before .before .before .before .before .before .before .before .args in
@@ -106,7 +85,6 @@ returns-2 c =
       offsetsAre = λ h. absurd (let z : _≡_ {A = ℕ} 0 1 = cc in omega arith);
     }
 
--- src/judging.rt:93:1
 returns-3 : tie.Need-returns-3
 returns-3 c =
     let a = c .before .before .before .before .before .before .before .before .before .before .before .before .before .before .args in

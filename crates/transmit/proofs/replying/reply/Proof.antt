@@ -9,41 +9,28 @@ use Rattle.transmit.specs.Code.{repliedBy}
 use Rattle.transmit.proofs.Replies.{replied-all}
 use Rattle.transmit.proofs.replying.reply.Statement.{statement}
 use Rattle.transmit.proofs.replying.reply.Tie as tie
-use Rattle.transmit.proofs.replying.reply.Reads as reads
-use Rattle.transmit.proofs.replying.reply.Lts as lts
-use Rattle.transmit.proofs.replying.reply_data.Reads as reply-data-reads
-use Rattle.transmit.proofs.replying.reply_extras.Reads as reply-extras-reads
-use Rattle.transmit.proofs.replying.reply_later.Reads as reply-later-reads
 
--- src/replying.rt:52:5
 reply-data-requires : tie.Need-reply-data-requires
 reply-data-requires c κs = search needs
 
--- src/replying.rt:53:5
 reply-extras-requires : tie.Need-reply-extras-requires
 reply-extras-requires c κs = search needs
 
--- src/replying.rt:54:30
 add-reply-later : tie.Need-add-reply-later
 add-reply-later c = search needs
 
--- src/replying.rt:54:42
 sub-reply-later : tie.Need-sub-reply-later
 sub-reply-later c = search needs
 
--- src/replying.rt:54:42
 sub-reply-later-2 : tie.Need-sub-reply-later-2
 sub-reply-later-2 c = search needs
 
--- src/replying.rt:54:5
 reply-later-requires : tie.Need-reply-later-requires
 reply-later-requires c κs = search needs
 
--- src/replying.rt:48:1
 same-length : tie.Need-same-length
 same-length c = search needs
 
--- src/replying.rt:48:1
 returns : tie.Need-returns
 returns c =
     let a = c .before .before .before .before .before .before .before .before .before .before .before .before .before .args in

@@ -3,30 +3,22 @@ use mathlib.Core.Path.{ap, _∙_}
 use mathlib.Core.List.{_++_}
 use Rattle.words.specs.Word.{splice, u16Bytes}
 use Rattle.ring.specs.Ring.{slotPlace}
-use Rattle.netif.specs.Slot.{ident, transmitReply}
+use Rattle.netif.specs.Slot.{transmitReply}
 use Rattle.netif.specs.Decode.{dataOf}
 use Rattle.netif.specs.declared.DataSlot.{DataSlot}
 use Rattle.transmit.specs.Judge.{dataReply}
 use Rattle.transmit.proofs.replying.reply_data.Statement.{statement}
 use Rattle.transmit.proofs.replying.reply_data.Tie as tie
-use Rattle.transmit.proofs.replying.reply_data.Reads as reads
-use Rattle.transmit.proofs.replying.reply_data.Lts as lts
-use Rattle.netif.proofs.DataSlot.at.Reads as at-reads
-use Rattle.ring.proofs.reply.Reads as reply-reads
 
--- src/replying.rt:19:9
 at-requires : tie.Need-at-requires
 at-requires c κs = search needs
 
--- src/replying.rt:20:5
 reply-requires : tie.Need-reply-requires
 reply-requires c κs = search needs
 
--- src/replying.rt:15:1
 same-length : tie.Need-same-length
 same-length c = search needs
 
--- src/replying.rt:15:1
 returns : tie.Need-returns
 unfolding dataReply transmitReply dataOf
 returns c =

@@ -1,20 +1,16 @@
 -- `replying::reply_extras` meets its contract: after i turns the first i slots of the run are replied to, and the others stand as they stood.
-use mathlib.Core.Path.{_≡_, refl, sym, ap, _∙_}
+use mathlib.Core.Path.{_≡_, ap, _∙_}
 use Prim.Native.Nat.{_+_, _-_, _≤_}
 use native.Mathlib.Omega.{arith}
 use lib.ListN.{length}
 use borrow.Author.Needs.{needs}
 use Rattle.netif.specs.Slot.{transmitReply}
-use Rattle.transmit.specs.Judge.{dataReply, extraReply}
+use Rattle.transmit.specs.Judge.{extraReply}
 use Rattle.transmit.specs.Code.{repliedBy}
-use Rattle.transmit.proofs.Cases.{data-short, extra-short}
+use Rattle.transmit.proofs.Cases.{extra-short}
 use Rattle.transmit.proofs.Replies.{by-none, by-length, by-more}
 use Rattle.transmit.proofs.replying.reply_extras.Statement.{statement}
 use Rattle.transmit.proofs.replying.reply_extras.Tie as tie
-use Rattle.transmit.proofs.replying.reply_extras.Reads as reads
-use Rattle.transmit.proofs.replying.reply_extras.Lts as lts
-use Rattle.ring.proofs.ahead.Reads as ahead-reads
-use Rattle.ring.proofs.reply.Reads as reply-reads
 
 abbrev Inv-loop : tie.InvT-loop
 Inv-loop ring₀ first extras i₀ ring i = (i ≤ extras) × (ring ≡ repliedBy extraReply ring₀ (first + 1) i) × (length ring ≡ 4096)
@@ -22,33 +18,26 @@ Inv-loop ring₀ first extras i₀ ring i = (i ≤ extras) × (ring ≡ repliedB
 abbrev μ-loop : tie.MeasureT-loop
 μ-loop ring₀ first extras i₀ ring i = extras - i
 
--- src/replying.rt:29:5
 loop-holds : tie.Need-loop-holds Inv-loop μ-loop
 loop-holds c =
     let a = c .before .args in
     (omega arith, by-none extraReply extra-short (a .ring .now) (search needs) (a .first + 1), search needs)
 
--- src/replying.rt:30:74
 add-ahead : tie.Need-add-ahead Inv-loop μ-loop
 add-ahead c = search needs
 
--- src/replying.rt:30:55
 ahead-requires : tie.Need-ahead-requires Inv-loop μ-loop
 ahead-requires c κs = search needs
 
--- src/replying.rt:30:9
 reply-requires : tie.Need-reply-requires Inv-loop μ-loop
 reply-requires c κs = search needs
 
--- src/replying.rt:31:9
 add-i : tie.Need-add-i Inv-loop μ-loop
 add-i c = search needs
 
--- src/replying.rt:29:5
 loop-less : tie.Need-loop-less Inv-loop μ-loop
 loop-less c = search needs
 
--- src/replying.rt:29:5
 loop-again : tie.Need-loop-again Inv-loop μ-loop
 unfolding extraReply transmitReply
 loop-again c =
@@ -58,11 +47,9 @@ loop-again c =
     let e = c .before .before .reply .ensures ∙ by-more extraReply extra-short (a .ring .now) (search needs) (a .first) 1 (l .i) (n .result) (n .ensures) (omega arith) (l .ring) (l .inv .1) in
     (omega arith, e, ap length e ∙ by-length extraReply extra-short (a .ring .now) (search needs) (a .first + 1) (l .i + 1))
 
--- src/replying.rt:24:1
 same-length : tie.Need-same-length Inv-loop μ-loop
 same-length c = search needs
 
--- src/replying.rt:24:1
 returns : tie.Need-returns Inv-loop μ-loop
 returns c =
     let a = c .before .before .before .args in

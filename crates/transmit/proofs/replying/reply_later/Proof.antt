@@ -1,20 +1,15 @@
 -- `replying::reply_later` meets its contract: after i turns the first i slots of the run are replied to, and the others stand as they stood.
-use mathlib.Core.Path.{_≡_, refl, sym, ap, _∙_}
+use mathlib.Core.Path.{_≡_, ap, _∙_}
 use Prim.Native.Nat.{_+_, _-_, _≤_}
 use native.Mathlib.Omega.{arith}
 use lib.ListN.{length}
 use borrow.Author.Needs.{needs}
-use Rattle.netif.specs.Slot.{transmitReply}
-use Rattle.transmit.specs.Judge.{dataReply, extraReply}
+use Rattle.transmit.specs.Judge.{dataReply}
 use Rattle.transmit.specs.Code.{repliedBy}
-use Rattle.transmit.proofs.Cases.{data-short, extra-short}
+use Rattle.transmit.proofs.Cases.{data-short}
 use Rattle.transmit.proofs.Replies.{by-none, by-length, by-more}
 use Rattle.transmit.proofs.replying.reply_later.Statement.{statement}
 use Rattle.transmit.proofs.replying.reply_later.Tie as tie
-use Rattle.transmit.proofs.replying.reply_later.Reads as reads
-use Rattle.transmit.proofs.replying.reply_later.Lts as lts
-use Rattle.ring.proofs.ahead.Reads as ahead-reads
-use Rattle.transmit.proofs.replying.reply_data.Reads as reply-data-reads
 
 abbrev Inv-loop : tie.InvT-loop
 Inv-loop ring₀ first from count status i₀ ring i = (i ≤ count) × (ring ≡ repliedBy (dataReply status) ring₀ (first + from) i) × (length ring ≡ 4096)
@@ -22,33 +17,26 @@ Inv-loop ring₀ first from count status i₀ ring i = (i ≤ count) × (ring �
 abbrev μ-loop : tie.MeasureT-loop
 μ-loop ring₀ first from count status i₀ ring i = count - i
 
--- src/replying.rt:41:5
 loop-holds : tie.Need-loop-holds Inv-loop μ-loop
 loop-holds c =
     let a = c .before .args in
     (omega arith, by-none (dataReply (a .status)) (data-short (a .status)) (a .ring .now) (search needs) (a .first + (a .from)), search needs)
 
--- src/replying.rt:42:45
 add-ahead : tie.Need-add-ahead Inv-loop μ-loop
 add-ahead c = search needs
 
--- src/replying.rt:42:26
 ahead-requires : tie.Need-ahead-requires Inv-loop μ-loop
 ahead-requires c κs = search needs
 
--- src/replying.rt:42:9
 reply-data-requires : tie.Need-reply-data-requires Inv-loop μ-loop
 reply-data-requires c κs = search needs
 
--- src/replying.rt:43:9
 add-i : tie.Need-add-i Inv-loop μ-loop
 add-i c = search needs
 
--- src/replying.rt:41:5
 loop-less : tie.Need-loop-less Inv-loop μ-loop
 loop-less c = search needs
 
--- src/replying.rt:41:5
 loop-again : tie.Need-loop-again Inv-loop μ-loop
 loop-again c =
     let a = c .before .before .before .before .before .before .before .before .args in
@@ -57,11 +45,9 @@ loop-again c =
     let e = c .before .before .reply-data .ensures ∙ by-more (dataReply (a .status)) (data-short (a .status)) (a .ring .now) (search needs) (a .first) (a .from) (l .i) (n .result) (n .ensures) (omega arith) (l .ring) (l .inv .1) in
     (omega arith, e, ap length e ∙ by-length (dataReply (a .status)) (data-short (a .status)) (a .ring .now) (search needs) (a .first + (a .from)) (l .i + 1))
 
--- src/replying.rt:36:1
 same-length : tie.Need-same-length Inv-loop μ-loop
 same-length c = search needs
 
--- src/replying.rt:36:1
 returns : tie.Need-returns Inv-loop μ-loop
 returns c =
     let a = c .before .before .before .args in
