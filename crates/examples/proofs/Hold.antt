@@ -6,7 +6,7 @@ use Rattle.grant.specs.Grant.{hasWord, word, granted, writable, pageOf, inRange
 use Rattle.netif.specs.Slot.{gref, offset, flags, ident, size, moreData, extraFollows, isExtra, anotherExtra, gsoSize, gsoType, transmitReply, requestIdent, requestGref, receiveReply}
 use Rattle.netif.specs.Grammar.{within}
 use Rattle.netif.specs.Divide.{divide}
-use Rattle.transmit.specs.Judge.{totalOf, ownPart, parts, judgeSizes, judgeSlot, judgeSlots, judge, dataReply, extraReply, repliesOf}
+use Rattle.packet.specs.Judge.{totalOf, ownPart, parts, judgeSizes, judgeSlot, judgeSlots, judge, dataReply, extraReply, repliesOf}
 use Rattle.transmit.specs.Take.{waitingSlots, doneReport, repliesTo, repliedPage, spoiled, handedOver, look, transmitTake}
 use Rattle.receive.specs.Put.{badLength, needed, deliver, receivePut}
 use Rattle.examples.specs.Examples.{rows, ExamplesHold}

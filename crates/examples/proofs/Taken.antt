@@ -13,7 +13,7 @@ use Rattle.netif.specs.Slot.{gref, offset, flags, ident, size, moreData, extraF
 use Rattle.netif.specs.Grammar.{within}
 use Rattle.netif.specs.Divide.{divide}
 use Rattle.netif.specs.Report.{goOn}
-use Rattle.transmit.specs.Judge.{totalOf, ownPart, parts, judgeSizes, judgeSlot, judgeSlots, judge, dataReply, extraReply, repliesOf}
+use Rattle.packet.specs.Judge.{totalOf, ownPart, parts, judgeSizes, judgeSlot, judgeSlots, judge, dataReply, extraReply, repliesOf}
 use Rattle.transmit.specs.Take.{waitingSlots, doneReport, repliesTo, repliedPage, spoiled, handedOver, look, transmitTake}
 use Rattle.transmit.specs.Sequence.{Fresh, afterPublication, callAt, outcomeOf, answerOf, afterCall, Sequence}
 use Rattle.examples.specs.Calls.{zeros, two, ringPage, grants, window}

@@ -8,7 +8,7 @@ use Rattle.ring.specs.Ring.{notify, posted, slotPlace}
 use Rattle.grant.specs.Grant.{granted, writable, pageOf}
 use Rattle.netif.specs.Slot.{slotWidth, slotCount, gref, offset, ident, size, gsoSize, gsoType, okay, error}
 use Rattle.netif.specs.Report.{halt, goOn, flag}
-use Rattle.transmit.specs.Judge.{parts, dataReply, extraReply}
+use Rattle.packet.specs.Judge.{parts, dataReply, extraReply}
 use Rattle.examples.specs.Calls.{zeros, slotA, extraA, request, one, two, three, withExtra, withExtras, header, ringPage, takesOn, takes, puts, answered, reported, taken, delivered, slotOf, requestOf}
 
 -- a row: the example's name, what is computed, and what is expected

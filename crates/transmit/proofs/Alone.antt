@@ -15,10 +15,11 @@ use Rattle.netif.proofs.Reading.{alone-whole}
 use Rattle.netif.specs.Front.{outlineOf}
 use Rattle.netif.specs.declared.DataSlot.{DataSlot}
 use Rattle.netif.specs.declared.Verdict.the-variants.{Good, Bad}
-use Rattle.transmit.specs.Judge.{totalOf, ownPart, judgeSizes, judgeSlot, judge, partOf, frameOf}
-use Rattle.transmit.specs.Plan.{slotPage}
-use Rattle.transmit.specs.Code.{Ready, packetOne, aloneOutline}
-use Rattle.transmit.proofs.Plans.{source-of-slot, slots-bad, slots-later, judge-sizes-bad, judge-slots-bad, judge-gso}
+use Rattle.packet.specs.Judge.{totalOf, ownPart, judgeSizes, judgeSlot, judge, partOf, frameOf}
+use Rattle.packet.specs.Plan.{slotPage}
+use Rattle.packet.specs.Stages.{Ready}
+use Rattle.transmit.specs.Code.{packetOne, aloneOutline}
+use Rattle.packet.proofs.Plans.{source-of-slot, slots-bad, slots-later, judge-sizes-bad, judge-slots-bad, judge-gso}
 
 module _ (page : List ℕ) (c : ℕ) (d : DataSlot) (is : d ≡ dataOf (slotAt 12 256 page c)) where
   pub alone-ready : Ready page c (aloneOutline d)

@@ -12,7 +12,7 @@ use Rattle.ring.specs.Ring.{wadd, reqProd, posted, asking, withReqEvent, withRs
 use Rattle.netif.specs.Slot.{Slot, slotWidth, slotCount, transmitReply}
 use Rattle.netif.specs.Divide.{whole, beginning, misshapen, divide, onCut}
 use Rattle.netif.specs.declared.Queue.{Queue}
-use Rattle.transmit.specs.Judge.{judge, dataReply, extraReply, repliesOf}
+use Rattle.packet.specs.Judge.{judge, dataReply, extraReply, repliesOf}
 use Rattle.netif.specs.Packet.{firstOf, extrasOf, laterOf}
 use Rattle.transmit.specs.Take.{refusal, takePacket, waitingSlots, repliesTo, repliedPage, Look, stop, ready, lookFront, look, takeOf, transmitTake, takeFront}
 use Rattle.words.proofs.Word.{splice-length, splice-before, u32-same}

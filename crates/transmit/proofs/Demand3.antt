@@ -19,7 +19,7 @@ use Rattle.netif.specs.Report.{goOn}
 use Rattle.netif.specs.declared.Verdict.{Verdict}
 use Rattle.netif.specs.declared.Verdict.the-variants.{Good, Bad}
 use Rattle.netif.specs.Service.{_▹_}
-use Rattle.transmit.specs.Judge.{judge, totalOf}
+use Rattle.packet.specs.Judge.{judge, totalOf}
 use Rattle.netif.specs.Packet.{firstOf}
 use Rattle.transmit.specs.Take.{Outcome, refusal, waitingSlots, repliedPage, handedOver, spoiled, takePacket, Look, stop, ready, look, takeOf, doneReport}
 use Rattle.transmit.specs.Sequence.{State, afterPublication, Call, callAt, outcomeOf, answerOf, afterCall, Sequence, Took, Told, Next, Demand3}
@@ -27,7 +27,7 @@ use Rattle.ring.proofs.Counters.{wadd-zero}
 use Rattle.ring.proofs.Standing.{EachBytes, Stands, stands-none, stands-posted, stands-slots, stands-same, stands-less, stands-more, stands-on, slot-wadd}
 use Rattle.netif.proofs.Grammar.{packet-length, packet-some, divide-whole}
 use Rattle.netif.proofs.Service.{Reads, Case, reads-fresh, reads-publish, reads-again, reads-empty, reads-waiting, reads-wrong, reads-took, reads-serves}
-use Rattle.transmit.proofs.Judge.{total-small}
+use Rattle.packet.proofs.Judge.{total-small}
 use Rattle.transmit.proofs.Cases.{asking-length, asking-requests, asking-slot, replied-length, replied-requests, replied-slot, take-of, look-halted, look-empty, look-some}
 
 abbrev pub turn : wrap % 256 ≡ 0

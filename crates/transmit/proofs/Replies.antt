@@ -20,7 +20,7 @@ use Rattle.ring.proofs.Ring.{slots-length, slots-at, slots-same, slots-split, s
 use Rattle.ring.proofs.Replied.{reply-next}
 use Rattle.netif.specs.Slot.{Slot}
 use Rattle.netif.specs.Packet.{extrasOf, laterOf}
-use Rattle.transmit.specs.Judge.{dataReply, extraReply, repliesOf}
+use Rattle.packet.specs.Judge.{dataReply, extraReply, repliesOf}
 use Rattle.transmit.specs.Take.{repliesTo, repliedPage}
 use Rattle.transmit.specs.Code.{repliedBy}
 use Rattle.transmit.proofs.Cases.{short-map, data-short, extra-short, replies-short, replies-count, to-length, producer-slot}

@@ -30,14 +30,15 @@ use Rattle.netif.specs.declared.Verdict.the-variants.{Good, Bad}
 use Rattle.netif.specs.Verdict.{_orElse_, test}
 use Rattle.netif.proofs.Within.{within-datas}
 use Rattle.netif.proofs.Grammar.{packet-length, divide-whole}
-use Rattle.transmit.specs.Judge.{totalOf, ownPart, parts, judgeSlot, judgeLater, judge, partOf, laterParts, frameOf, repliesOf}
+use Rattle.packet.specs.Judge.{totalOf, ownPart, parts, judgeSlot, judgeLater, judge, partOf, laterParts, frameOf, repliesOf}
 use Rattle.transmit.specs.Take.{repliesTo, repliedPage, refusal, spoiled, doneReport, handedOver, takePacket}
-use Rattle.transmit.specs.Plan.{joined, InWindow, datasOf, slotPage}
-use Rattle.transmit.specs.Code.{packetAt, Ready, HoldsParts, ConsumedAs, Gives}
+use Rattle.packet.specs.Plan.{joined, InWindow, datasOf, slotPage}
+use Rattle.packet.specs.Stages.{packetAt, Ready, HoldsParts}
+use Rattle.transmit.specs.Code.{ConsumedAs, Gives}
 use Rattle.transmit.specs.declared.Consumed.{Consumed}
-use Rattle.transmit.proofs.Judge.{orElse-good, test-good, good-parts}
+use Rattle.packet.proofs.Judge.{orElse-good, test-good, good-parts}
 use Rattle.transmit.proofs.Cases.{to-length, replies-short}
-use Rattle.transmit.proofs.Plans.{total-of, sum-of, blank-of, validated-of, gso-size-of, gso-type-of}
+use Rattle.packet.proofs.Plans.{total-of, sum-of, blank-of, validated-of, gso-size-of, gso-type-of}
 
 -- ---- notify
 

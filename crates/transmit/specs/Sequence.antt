@@ -10,7 +10,7 @@ use Rattle.netif.specs.Grammar.{Packet}
 use Rattle.netif.specs.Service.{_▹_, Serves}
 use Rattle.netif.specs.declared.Queue.{Queue}
 use Rattle.netif.specs.Report.{goOn}
-use Rattle.transmit.specs.Judge.{judge}
+use Rattle.packet.specs.Judge.{judge}
 use Rattle.netif.specs.declared.Verdict.the-variants.{Good, Bad}
 use Rattle.transmit.specs.Take.{Outcome, refusal, spoiled, handedOver, transmitTake}
 

@@ -11,7 +11,7 @@ use Rattle.netif.specs.Packet.{firstOf, gsoSizeOf, gsoTypeOf}
 use Rattle.netif.specs.Divide.{divide, onCut}
 use Rattle.netif.specs.declared.Queue.{Queue}
 use Rattle.netif.specs.Report.{halt, goOn, Report, flag, plain, spoiledReport}
-use Rattle.transmit.specs.Judge.{totalOf, judge, frameOf, repliesOf}
+use Rattle.packet.specs.Judge.{totalOf, judge, frameOf, repliesOf}
 use Rattle.netif.specs.declared.Verdict.{Verdict}
 use Rattle.netif.specs.declared.Verdict.the-variants.{Good, Bad}
 

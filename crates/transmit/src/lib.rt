@@ -1,6 +1,4 @@
 // One transmit call: the packet at the counter is read, judged, gathered, replied to and published.
-pub mod gathering;
-pub mod judging;
 pub mod replying;
 
 ghost use mathlib.Core.Path.{_≡_};
@@ -13,10 +11,11 @@ ghost use Rattle.ring.specs.Ring.{pageSize, posted, slotAt};
 ghost use Rattle.netif.specs.Decode.{dataOf};
 ghost use Rattle.netif.specs.Slot.{slotWidth, slotCount};
 ghost use Rattle.netif.specs.declared.Verdict.the-variants.{Good};
-ghost use Rattle.transmit.specs.Plan.{slotPage};
-ghost use Rattle.transmit.specs.Judge.{judge, frameOf};
+ghost use Rattle.packet.specs.Plan.{slotPage};
+ghost use Rattle.packet.specs.Judge.{judge, frameOf};
 ghost use Rattle.transmit.specs.Take.{spoiled, handedOver, takeFront, transmitTake};
-ghost use Rattle.transmit.specs.Code.{packetAt, Ready, HoldsParts, ConsumedAs, Gives, takeWhole, packetOne, aloneOutline};
+ghost use Rattle.packet.specs.Stages.{packetAt, Ready, HoldsParts};
+ghost use Rattle.transmit.specs.Code.{ConsumedAs, Gives, takeWhole, packetOne, aloneOutline};
 use grant::Source;
 use netif::Answer;
 use netif::DataSlot;
@@ -124,7 +123,7 @@ fn settle(
     let mut pages = [0u32; 18];
     let mut offsets = [0u16; 18];
     let head = o.head;
-    match judging::judge(
+    match packet::judging::judge(
         ring,
         queue.consumed,
         o,
@@ -143,7 +142,7 @@ fn settle(
                 };
             }
             let count = (o.slots - o.extras) as usize;
-            gathering::gather(window, count, &pages, &offsets, sizes, frame);
+            packet::gathering::gather(window, count, &pages, &offsets, sizes, frame);
             accept(queue, o, ring)
         }
     }
@@ -189,7 +188,7 @@ fn accept_alone(
             queue,
         };
     }
-    gathering::copy_part(window, page, head.offset, head.size, frame, 0);
+    packet::gathering::copy_part(window, page, head.offset, head.size, frame, 0);
     accept(queue, outline_of(head), ring)
 }
 
@@ -208,7 +207,7 @@ fn settle_alone(
         r (now (ring .exit)) (now (frame .exit)) ⌝ }
 {
     let head = DataSlot::at(ring, queue.consumed);
-    match judging::judge_sizes(head.size, 0) {
+    match packet::judging::judge_sizes(head.size, 0) {
         Verdict::Bad { cause, place } => refuse(queue, outline_of(head), cause, place, ring),
         Verdict::Good => match grant::lookup(grants, window, head.gref, head.offset, head.size) {
             Source::Unfit => refuse(queue, outline_of(head), 4, 0, ring),
@@ -253,7 +252,7 @@ fn take_front(
         }
         Front::Whole(o) => {
             let head = o.head;
-            sizes[0] = judging::own_part(head.size, o.later);
+            sizes[0] = packet::judging::own_part(head.size, o.later);
             settle(queue, o, &sizes, grants, window, ring, frame)
         }
     }

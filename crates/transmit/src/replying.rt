@@ -5,7 +5,7 @@ ghost use lib.ListN.{length};
 ghost use Rattle.words.specs.Word.{splice};
 ghost use Rattle.ring.specs.Ring.{pageSize, slotPlace, slotAt};
 ghost use Rattle.netif.specs.Slot.{slotWidth, slotCount};
-ghost use Rattle.transmit.specs.Judge.{dataReply, extraReply};
+ghost use Rattle.packet.specs.Judge.{dataReply, extraReply};
 ghost use Rattle.transmit.specs.Take.{repliesTo};
 ghost use Rattle.transmit.specs.Code.{repliedBy};
 use netif::DataSlot;

@@ -1,3 +1,4 @@
+-- `fit_to_read` meets its contract: each test of the code is one of `fitTransmit`'s, and each way out one law of `Grant`.
 use borrow.Author.Needs.{needs}
 use Rattle.grant.proofs.Grant.{no-word, not-usable, not-granted, is-fit}
 use mathlib.Core.Path.{sym, _∙_}

@@ -1,3 +1,4 @@
+-- `fit_to_write` meets its contract: fit for receive is fit for transmit and writable (`write-of`).
 use borrow.Author.Needs.{needs}
 use mathlib.Core.Bool.{true, false}
 use Rattle.grant.specs.Grant.{writable}

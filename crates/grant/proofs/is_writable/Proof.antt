@@ -1,3 +1,4 @@
+-- `is_writable` meets its contract: bit 1 of the word that was read.
 use borrow.Author.Needs.{needs}
 use mathlib.Core.Path.{ap, _∙_}
 use Prim.Native.Nat.{_+_, _*_}

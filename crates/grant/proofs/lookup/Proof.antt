@@ -1,3 +1,4 @@
+-- `lookup` meets its contract: what `fit_to_read` answers, then the test of the range, each one case of `sourceOf`.
 use borrow.Author.Needs.{needs}
 use Rattle.grant.specs.declared.Source.the-variants as source
 use mathlib.Core.Path.{ap, _∙_}

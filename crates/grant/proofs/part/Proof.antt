@@ -1,3 +1,4 @@
+-- `part` meets its contract: the part's end minus its start is its size.
 use borrow.Author.Needs.{needs}
 use mathlib.Core.Path.{_≡_}
 use Prim.Native.Nat.{_+_, _-_, _*_}

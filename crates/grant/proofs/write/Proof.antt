@@ -1,3 +1,4 @@
+-- `write` meets its contract: the copy into the page's part, and the window put together again around it.
 use borrow.Author.Needs.{needs}
 use mathlib.Core.Path.{ap, _∙_}
 use mathlib.Core.List.{_++_}

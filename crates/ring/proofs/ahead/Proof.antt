@@ -1,3 +1,4 @@
+-- `ahead` meets its contract: the addition of `std::num` wraps as `wadd` does.
 use borrow.Author.Needs.{needs}
 use Rattle.ring.specs.Ring.{wadd}
 use Rattle.ring.proofs.ahead.Statement.{statement}

@@ -1,3 +1,4 @@
+-- `ask_event` meets its contract: req_prod as read, plus 1, stored at byte 4.
 use borrow.Author.Needs.{needs}
 use mathlib.Core.Path.{ap, _∙_}
 use Rattle.words.specs.Word.{splice, u32Bytes}

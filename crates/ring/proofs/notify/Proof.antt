@@ -1,3 +1,4 @@
+-- `notify` meets its contract: its two subtractions wrap as `wsub` does.
 use borrow.Author.Needs.{needs}
 use Rattle.ring.specs.Ring.{notify}
 use Rattle.ring.proofs.Counters.{subtracted}

@@ -1,3 +1,4 @@
+-- `place` meets its contract: its arithmetic is the definition's.
 use borrow.Author.Needs.{needs}
 use mathlib.Core.Path.{refl}
 use native.Mathlib.Nat.{mod-lt}

@@ -1,3 +1,4 @@
+-- `posted` meets its contract: the subtraction of `std::num` wraps as `wsub` does.
 use borrow.Author.Needs.{needs}
 use Rattle.ring.specs.Ring.{posted}
 use Rattle.ring.proofs.Counters.{subtracted}

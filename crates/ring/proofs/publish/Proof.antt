@@ -1,3 +1,4 @@
+-- `publish` meets its contract: the counter is stored at byte 8.
 use borrow.Author.Needs.{needs}
 use Rattle.ring.specs.Ring.{withRspProd}
 use Rattle.ring.proofs.publish.Statement.{statement}

@@ -1,3 +1,4 @@
+-- `reply` meets its contract: the pair is stored where the slot stands.
 use borrow.Author.Needs.{needs}
 use mathlib.Core.Path.{ap, _∙_}
 use mathlib.Core.List.{_++_}

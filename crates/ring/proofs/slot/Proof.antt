@@ -1,3 +1,4 @@
+-- `slot` meets its contract: the part's end minus its start is the slot's width.
 use borrow.Author.Needs.{needs}
 use mathlib.Core.Path.{_≡_}
 use Prim.Native.Nat.{_+_, _-_}

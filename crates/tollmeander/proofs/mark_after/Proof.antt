@@ -1,3 +1,4 @@
+-- `mark_after` meets its contract: a mark that is 0 becomes the flag's word, any other stays.
 use borrow.Author.Tests.{eq-eqb, ne-eqb}
 use Rattle.tollmeander.specs.Interface.{markAfter}
 use borrow.Author.Needs.{needs}

@@ -1,3 +1,4 @@
+-- `queue_of` meets its contract: its test is the definition's.
 use mathlib.Core.Path.{refl}
 use Rattle.tollmeander.specs.Interface.{queueOf}
 use Rattle.tollmeander.proofs.queue_of.Statement.{statement}

@@ -1,3 +1,4 @@
+-- `write_number` meets its contract: the number, and nine words that are 0.
 use mathlib.Core.Path.{refl}
 use Rattle.tollmeander.specs.Interface.{reportWords}
 use Rattle.tollmeander.proofs.write_number.Statement.{statement}

@@ -1,3 +1,4 @@
+-- `write_spoiled` meets its contract: the ten words in their order, the flag as its word.
 use mathlib.Core.Path.{refl}
 use Rattle.tollmeander.specs.Interface.{reportWords}
 use borrow.Author.Needs.{needs}

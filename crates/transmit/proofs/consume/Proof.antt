@@ -1,3 +1,4 @@
+-- `consume` meets its contract: the replies, then rsp_prod; neither moves rsp_event, so that notify is that of the page as lent.
 use mathlib.Core.Path.{ap, _∙_}
 use Rattle.ring.specs.Ring.{withRspProd, notify}
 use Rattle.transmit.specs.Take.{repliesTo, repliedPage}

@@ -1,6 +1,7 @@
+-- `refuse` meets its contract: what `consume` leaves, and the cause, as `gives-spoiled` puts them together.
 use mathlib.Core.Path.{sym}
 use Rattle.ring.proofs.Ring.{slots-length}
-use Rattle.transmit.specs.Code.{packetAt}
+use Rattle.packet.specs.Stages.{packetAt}
 use Rattle.transmit.proofs.Settling.{gives-spoiled}
 use borrow.Author.Needs.{needs}
 use Rattle.transmit.proofs.refuse.Statement.{statement}

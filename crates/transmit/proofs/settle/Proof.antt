@@ -5,9 +5,9 @@ use native.Mathlib.Omega.{arith}
 use lib.ListN.{length}
 use Rattle.words.specs.Word.{splice}
 use Rattle.netif.specs.declared.Answer.the-variants.{NoRoom}
-use Rattle.transmit.specs.Code.{packetAt}
-use Rattle.transmit.proofs.Judge.{frame-length}
-use Rattle.transmit.proofs.Plans.{total-of, datas-count}
+use Rattle.packet.specs.Stages.{packetAt}
+use Rattle.packet.proofs.Judge.{frame-length}
+use Rattle.packet.proofs.Plans.{total-of, datas-count}
 use Rattle.transmit.proofs.Settling.{plan-long, plan-inside, plan-joined, packet-spoiled, packet-no-room, packet-done, gives-refusal}
 use borrow.Author.Needs.{needs}
 use Rattle.transmit.proofs.settle.Statement.{statement}

@@ -3,9 +3,9 @@ use mathlib.Core.Path.{sym, ap, _∙_}
 use Prim.Native.Nat.{_+_, _*_}
 use native.Mathlib.Omega.{arith}
 use Rattle.ring.specs.Ring.{slotAt}
-use Rattle.transmit.specs.Judge.{ownPart}
+use Rattle.packet.specs.Judge.{ownPart}
 use Rattle.transmit.specs.Code.{packetOne}
-use Rattle.transmit.proofs.Plans.{slot-unfit, slot-outside, slot-at}
+use Rattle.packet.proofs.Plans.{slot-unfit, slot-outside, slot-at}
 use Rattle.transmit.proofs.Alone.{alone-ready, offset-is, own-is, alone-looked, alone-short, alone-bad, alone-good}
 use Rattle.transmit.proofs.Settling.{slot-inside, packet-spoiled}
 use borrow.Author.Needs.{needs}

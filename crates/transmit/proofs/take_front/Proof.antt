@@ -9,7 +9,7 @@ use Rattle.ring.specs.Ring.{slotsFrom}
 use Rattle.netif.specs.Slot.{size}
 use Rattle.netif.specs.Packet.{laterOf}
 use Rattle.netif.specs.declared.Answer.the-variants.{Misshapen, Waiting}
-use Rattle.transmit.specs.Code.{packetAt}
+use Rattle.packet.specs.Stages.{packetAt}
 use Rattle.transmit.proofs.Cases.{waiting-slots, front-stops, front-wrong, front-packet}
 use Rattle.transmit.proofs.Alone.{alone-front}
 use Rattle.transmit.proofs.Settling.{front-beginning, front-misshapen, front-whole, whole-ready, extras-are, packet-whole, parts-held, gives-refusal}

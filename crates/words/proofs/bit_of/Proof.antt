@@ -1,3 +1,4 @@
+-- `bit_of` meets its contract: the mask keeps the lowest bit of what is shifted.
 use mathlib.Core.Path.{ap}
 use Prim.Native.Nat.{ℕ, _/_, _^_}
 use lib.Dec.{eqb}

@@ -1,3 +1,4 @@
+-- `put_pair` meets its contract: a 32-bit number's bytes are those of its halves (`pair-bytes`).
 use mathlib.Core.Path.{ap, _∙_}
 use borrow.Author.Needs.{needs}
 use Rattle.words.specs.Word.{splice}

@@ -1,3 +1,4 @@
+-- `put_u32` meets its contract: four stores side by side are one splice.
 use borrow.Author.Needs.{needs}
 use native.Mathlib.Omega.{arith}
 use lib.ListN.{length-set}

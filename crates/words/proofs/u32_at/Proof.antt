@@ -1,3 +1,4 @@
+-- `u32_at` meets its contract: the number is made of its halves (`halves`).
 use borrow.Author.Needs.{needs}
 use Rattle.words.proofs.Word.{halves}
 use Rattle.words.proofs.u32_at.Statement.{statement}

@@ -1,3 +1,4 @@
+-- `DataSlot::decode` meets its contract: each field is read where the definition has it.
 use borrow.Author.Needs.{needs}
 use Rattle.netif.specs.Slot.{gref, offset, flags, ident, size}
 use Rattle.netif.specs.Decode.{dataOf}

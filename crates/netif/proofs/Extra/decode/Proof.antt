@@ -1,3 +1,4 @@
+-- `Extra::decode` meets its contract: each field is read where the definition has it.
 use borrow.Author.Needs.{needs}
 use Rattle.netif.specs.Slot.{gsoSize, gsoType}
 use Rattle.netif.specs.Decode.{extraOf}

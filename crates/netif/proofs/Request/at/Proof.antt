@@ -1,3 +1,4 @@
+-- `Request::at` meets its contract: the slot's bytes, decoded.
 use borrow.Author.Needs.{needs}
 use mathlib.Core.Path.{ap, _∙_}
 use native.Mathlib.Omega.{arith}

@@ -1,3 +1,4 @@
+-- `Request::decode` meets its contract: each field is read where the definition has it.
 use borrow.Author.Needs.{needs}
 use Rattle.netif.specs.Slot.{requestIdent, requestGref}
 use Rattle.netif.specs.Decode.{requestOf}

@@ -1,3 +1,4 @@
+-- `divider::fits` meets its contract: its test is the definition's.
 use borrow.Author.Needs.{needs}
 use mathlib.Core.Path.{refl}
 use Rattle.netif.specs.Grammar.{within}

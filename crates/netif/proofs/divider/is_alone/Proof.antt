@@ -1,3 +1,4 @@
+-- `divider::is_alone` meets its contract: bits 2 and 3 of the slot's flags, in the order of the definition.
 use mathlib.Core.Path.{sym, ap, _∙_}
 use mathlib.Core.Bool.{not}
 use Rattle.netif.specs.Divide.{alone}

@@ -3,7 +3,7 @@ use mathlib.Core.Path.{_≡_, ap, _∙_}
 use Prim.Native.Nat.{suc, _+_, _-_}
 use native.Mathlib.Omega.{arith}
 use borrow.Author.Needs.{needs}
-use Rattle.transmit.specs.Judge.{dataReply, extraReply}
+use Rattle.packet.specs.Judge.{dataReply, extraReply}
 use Rattle.transmit.specs.Take.{repliesTo}
 use Rattle.transmit.specs.Code.{repliedBy}
 use Rattle.transmit.proofs.Replies.{replied-all}

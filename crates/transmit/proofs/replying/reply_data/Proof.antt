@@ -1,3 +1,4 @@
+-- `replying::reply_data` meets its contract: the slot's own id and the status, stored over its first bytes.
 use borrow.Author.Needs.{needs}
 use mathlib.Core.Path.{ap, _∙_}
 use mathlib.Core.List.{_++_}
@@ -6,7 +7,7 @@ use Rattle.ring.specs.Ring.{slotPlace}
 use Rattle.netif.specs.Slot.{transmitReply}
 use Rattle.netif.specs.Decode.{dataOf}
 use Rattle.netif.specs.declared.DataSlot.{DataSlot}
-use Rattle.transmit.specs.Judge.{dataReply}
+use Rattle.packet.specs.Judge.{dataReply}
 use Rattle.transmit.proofs.replying.reply_data.Statement.{statement}
 use Rattle.transmit.proofs.replying.reply_data.Tie as tie
 

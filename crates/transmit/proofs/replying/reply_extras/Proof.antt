@@ -5,7 +5,7 @@ use native.Mathlib.Omega.{arith}
 use lib.ListN.{length}
 use borrow.Author.Needs.{needs}
 use Rattle.netif.specs.Slot.{transmitReply}
-use Rattle.transmit.specs.Judge.{extraReply}
+use Rattle.packet.specs.Judge.{extraReply}
 use Rattle.transmit.specs.Code.{repliedBy}
 use Rattle.transmit.proofs.Cases.{extra-short}
 use Rattle.transmit.proofs.Replies.{by-none, by-length, by-more}

@@ -4,7 +4,7 @@ use Prim.Native.Nat.{_+_, _-_, _≤_}
 use native.Mathlib.Omega.{arith}
 use lib.ListN.{length}
 use borrow.Author.Needs.{needs}
-use Rattle.transmit.specs.Judge.{dataReply}
+use Rattle.packet.specs.Judge.{dataReply}
 use Rattle.transmit.specs.Code.{repliedBy}
 use Rattle.transmit.proofs.Cases.{data-short}
 use Rattle.transmit.proofs.Replies.{by-none, by-length, by-more}

@@ -4,7 +4,7 @@ ghost use Prim.Native.Nat.{_+_, _*_, _≤_};
 ghost use lib.ListN.{length, take};
 ghost use Rattle.words.specs.Word.{splice};
 ghost use Rattle.grant.specs.Grant.{pagePart};
-ghost use Rattle.transmit.specs.Plan.{joined, InWindow};
+ghost use Rattle.packet.specs.Plan.{joined, InWindow};
 
 // Copies one part of a page to its position in the frame buffer.
 pub fn copy_part(window: &[u8], page: u32, offset: u16, size: u16, frame: &mut [u8], at: usize)

@@ -1,7 +1,8 @@
-use Rattle.transmit.proofs.Plans.{gso-zero, gso-one, gso-two, gso-other}
+-- `judging::judge_gso` meets its contract: each way out is one law of `Plans`.
+use Rattle.packet.proofs.Plans.{gso-zero, gso-one, gso-two, gso-other}
 use borrow.Author.Needs.{needs}
-use Rattle.transmit.proofs.judging.judge_gso.Statement.{statement}
-use Rattle.transmit.proofs.judging.judge_gso.Tie as tie
+use Rattle.packet.proofs.judging.judge_gso.Statement.{statement}
+use Rattle.packet.proofs.judging.judge_gso.Tie as tie
 
 returns : tie.Need-returns
 returns c = search needs

@@ -1,3 +1,4 @@
+-- `gathering::copy_part` meets its contract: the copy into the frame's part, and the frame put together again around it.
 use borrow.Author.Needs.{needs}
 use mathlib.Core.Path.{ap, _∙_}
 use mathlib.Core.List.{_++_}
@@ -7,9 +8,9 @@ use lib.ListN.{length, take, drop, length-take, length-drop}
 use Rattle.words.specs.Word.{splice}
 use Rattle.words.proofs.Word.{part-written}
 use Rattle.grant.specs.Grant.{pagePart}
-use Rattle.transmit.proofs.Joining.{part-size}
-use Rattle.transmit.proofs.gathering.copy_part.Statement.{statement}
-use Rattle.transmit.proofs.gathering.copy_part.Tie as tie
+use Rattle.packet.proofs.Joining.{part-size}
+use Rattle.packet.proofs.gathering.copy_part.Statement.{statement}
+use Rattle.packet.proofs.gathering.copy_part.Tie as tie
 
 add-end : tie.Need-add-end
 add-end c = search needs

@@ -7,10 +7,10 @@ use lib.ListN.{length, take}
 use borrow.Author.Needs.{needs}
 use Rattle.words.specs.Word.{splice}
 use Rattle.words.proofs.Word.{splice-none, splice-length}
-use Rattle.transmit.specs.Plan.{joined, InWindow}
-use Rattle.transmit.proofs.Joining.{next-length, next-room, next-frame}
-use Rattle.transmit.proofs.gathering.gather.Statement.{statement}
-use Rattle.transmit.proofs.gathering.gather.Tie as tie
+use Rattle.packet.specs.Plan.{joined, InWindow}
+use Rattle.packet.proofs.Joining.{next-length, next-room, next-frame}
+use Rattle.packet.proofs.gathering.gather.Statement.{statement}
+use Rattle.packet.proofs.gathering.gather.Tie as tie
 
 abbrev Inv-loop : tie.InvT-loop
 Inv-loop window count pages offsets sizes frame₀ i₀ at₀ frame i at =

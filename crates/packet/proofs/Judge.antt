@@ -12,7 +12,7 @@ use Rattle.grant.specs.Grant.{inRange, fitTransmit}
 use Rattle.grant.proofs.Grant.{part-length}
 use Rattle.netif.specs.Packet.{firstOf, laterOf, sizes}
 use Rattle.netif.specs.Slot.{Slot, gref, offset, size}
-use Rattle.transmit.specs.Judge.{totalOf, ownPart, judgeSizes, judgeSlot, judgeLater, judgeSlots, judge, partOf, laterParts, frameOf}
+use Rattle.packet.specs.Judge.{totalOf, ownPart, judgeSizes, judgeSlot, judgeLater, judgeSlots, judge, partOf, laterParts, frameOf}
 use Rattle.netif.specs.declared.Verdict.{Verdict}
 use Rattle.netif.specs.declared.Verdict.the-variants.{Good, Bad}
 use Rattle.netif.specs.Verdict.{_orElse_, test}

@@ -12,12 +12,12 @@ use Rattle.words.proofs.Word.{splice-none}
 use Rattle.ring.specs.Ring.{slotsFrom}
 use Rattle.netif.specs.Slot.{offset}
 use Rattle.netif.proofs.Loop.{column-next}
-use Rattle.transmit.specs.Judge.{judgeLater}
-use Rattle.transmit.specs.Plan.{slotPage}
-use Rattle.transmit.specs.Code.{laterAt}
-use Rattle.transmit.proofs.Plans.{later-none, turn-unfit, turn-outside, turn-good, turn-page, turn-offset}
-use Rattle.transmit.proofs.judging.judge_later.Statement.{statement}
-use Rattle.transmit.proofs.judging.judge_later.Tie as tie
+use Rattle.packet.specs.Judge.{judgeLater}
+use Rattle.packet.specs.Plan.{slotPage}
+use Rattle.packet.specs.Stages.{laterAt}
+use Rattle.packet.proofs.Plans.{later-none, turn-unfit, turn-outside, turn-good, turn-page, turn-offset}
+use Rattle.packet.proofs.judging.judge_later.Statement.{statement}
+use Rattle.packet.proofs.judging.judge_later.Tie as tie
 
 abbrev Inv-loop : tie.InvT-loop
 Inv-loop ring first extras later sizes pages₀ offsets₀ grants window i₀ pages offsets i =

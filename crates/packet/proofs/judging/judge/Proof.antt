@@ -2,12 +2,12 @@
 use mathlib.Core.Path.{_≡_, sym, ap, _∙_}
 use Prim.Native.Nat.{ℕ, _-_}
 use native.Mathlib.Omega.{arith}
-use Rattle.transmit.specs.Judge.{judgeSizes, judgeGso}
-use Rattle.transmit.specs.Code.{packetAt}
-use Rattle.transmit.proofs.Plans.{total-of, sum-of, gso-size-of, gso-type-of, judge-sizes-bad, judge-slots-bad, judge-gso}
+use Rattle.packet.specs.Judge.{judgeSizes, judgeGso}
+use Rattle.packet.specs.Stages.{packetAt}
+use Rattle.packet.proofs.Plans.{total-of, sum-of, gso-size-of, gso-type-of, judge-sizes-bad, judge-slots-bad, judge-gso}
 use borrow.Author.Needs.{needs}
-use Rattle.transmit.proofs.judging.judge.Statement.{statement}
-use Rattle.transmit.proofs.judging.judge.Tie as tie
+use Rattle.packet.proofs.judging.judge.Statement.{statement}
+use Rattle.packet.proofs.judging.judge.Tie as tie
 
 judge-sizes-requires : tie.Need-judge-sizes-requires
 judge-sizes-requires c κs = search needs

@@ -1,7 +1,8 @@
+-- `judging::judge_sizes` meets its contract: each test of the code is the next one of the definition.
 use borrow.Author.Tests.{lt-ltb, le-ltb}
-use Rattle.transmit.specs.Judge.{judgeSizes}
-use Rattle.transmit.proofs.judging.judge_sizes.Statement.{statement}
-use Rattle.transmit.proofs.judging.judge_sizes.Tie as tie
+use Rattle.packet.specs.Judge.{judgeSizes}
+use Rattle.packet.proofs.judging.judge_sizes.Statement.{statement}
+use Rattle.packet.proofs.judging.judge_sizes.Tie as tie
 
 returns : tie.Need-returns
 unfolding judgeSizes

@@ -5,13 +5,13 @@ use native.Mathlib.Omega.{arith}
 use lib.ListN.{length-set}
 use Rattle.netif.specs.Slot.{offset}
 use Rattle.netif.specs.Packet.{firstOf}
-use Rattle.transmit.specs.Judge.{ownPart, judgeLater}
-use Rattle.transmit.specs.Plan.{slotPage}
-use Rattle.transmit.specs.Code.{packetAt}
-use Rattle.transmit.proofs.Plans.{slot-unfit, slot-outside, slot-at, source-of-slot, packet-later, head-of, own-held, later-held, column-whole, head-offset, slots-bad, slots-later}
+use Rattle.packet.specs.Judge.{ownPart, judgeLater}
+use Rattle.packet.specs.Plan.{slotPage}
+use Rattle.packet.specs.Stages.{packetAt}
+use Rattle.packet.proofs.Plans.{slot-unfit, slot-outside, slot-at, source-of-slot, packet-later, head-of, own-held, later-held, column-whole, head-offset, slots-bad, slots-later}
 use borrow.Author.Needs.{needs}
-use Rattle.transmit.proofs.judging.judge_slots.Statement.{statement}
-use Rattle.transmit.proofs.judging.judge_slots.Tie as tie
+use Rattle.packet.proofs.judging.judge_slots.Statement.{statement}
+use Rattle.packet.proofs.judging.judge_slots.Tie as tie
 
 element-copy-out-lookup : tie.Need-element-copy-out-lookup
 element-copy-out-lookup c = search needs

@@ -25,9 +25,9 @@ use Rattle.netif.specs.Front.{outlineOf}
 use Rattle.netif.specs.declared.divider.Outline.{Outline}
 use Rattle.netif.specs.declared.DataSlot.{DataSlot}
 use Rattle.netif.specs.declared.Verdict.the-variants.{Good, Bad}
-use Rattle.transmit.specs.Judge.{totalOf, ownPart, parts, judgeSizes, judgeGso, judgeSlot, judgeLater, judgeSlots, judge}
-use Rattle.transmit.specs.Plan.{datasOf, slotPage, SizesOf}
-use Rattle.transmit.specs.Code.{laterAt, HoldsParts}
+use Rattle.packet.specs.Judge.{totalOf, ownPart, parts, judgeSizes, judgeGso, judgeSlot, judgeLater, judgeSlots, judge}
+use Rattle.packet.specs.Plan.{datasOf, slotPage, SizesOf}
+use Rattle.packet.specs.Stages.{laterAt, HoldsParts}
 
 -- ---- cause 6
 

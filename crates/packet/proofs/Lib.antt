@@ -1,0 +1,4 @@
+-- The laws of the definitions.
+pub mod Judge
+pub mod Joining
+pub mod Plans
