@@ -51,7 +51,7 @@ struct packet {
     uint32_t gso_type;
     uint32_t data_slots;
     uint32_t later_sizes;       /* of the data slots after the first, together */
-    struct data_slot data[TOLLMEANDER_PACKET_SLOTS_MAX];
+    struct data_slot data[TOLLMEANDER_PACKET_DATA_MAX];
 };
 
 /* A part of the window that goes into a frame. */
@@ -186,25 +186,24 @@ static struct data_slot read_data_slot(const uint8_t *from)
 static uint32_t read_extras(uint8_t *ring, uint32_t first, uint32_t posted,
                             struct packet *packet)
 {
-    uint32_t owed = packet->data[0].flags & FLAG_MORE_DATA ? 1 : 0;
-    uint32_t slots = 1;
+    uint32_t extras = 0;
     uint8_t flags;
 
     do {
-        const uint8_t *from = transmit_slot(ring, first + slots);
+        const uint8_t *from = transmit_slot(ring, first + 1 + extras);
 
-        if (slots + 1 + owed > TOLLMEANDER_PACKET_SLOTS_MAX)
+        if (extras == TOLLMEANDER_PACKET_EXTRAS_MAX)
             return TOLLMEANDER_MISSHAPEN;
-        if (slots == posted)
+        if (1 + extras == posted)
             return TOLLMEANDER_WAITING;
         if (from[0] != EXTRA_GSO)
             return TOLLMEANDER_MISSHAPEN;
         flags = from[1];
         packet->gso_size = get16(from + 2);
         packet->gso_type = from[4];
-        slots++;
+        extras++;
     } while (flags & EXTRA_FLAG_ANOTHER);
-    packet->extras = slots - 1;
+    packet->extras = extras;
     return TOLLMEANDER_DONE;
 }
 
@@ -217,7 +216,7 @@ static uint32_t read_more_data(uint8_t *ring, uint32_t first, uint32_t posted,
     uint32_t sizes = 0;
 
     do {
-        if (slots == TOLLMEANDER_PACKET_SLOTS_MAX)
+        if (slots == packet->extras + TOLLMEANDER_PACKET_DATA_MAX)
             return TOLLMEANDER_MISSHAPEN;
         if (slots == posted)
             return TOLLMEANDER_WAITING;
@@ -371,7 +370,7 @@ static uint32_t take_all(const struct lent *lent, const struct packet *packet,
 {
     uint32_t n = *lent->consumed;
     uint32_t slots = packet->data_slots + packet->extras;
-    struct part parts[TOLLMEANDER_PACKET_SLOTS_MAX];
+    struct part parts[TOLLMEANDER_PACKET_DATA_MAX];
     struct verdict verdict = judge(lent, window, packet, parts);
 
     if (verdict.cause != 0) {

@@ -6,7 +6,7 @@
 #include "slot_bits.h"
 
 enum {
-    MOST_EXTRAS = 2,
+    MOST_EXTRAS = TOLLMEANDER_PACKET_EXTRAS_MAX,
     MOST_SPARE_SLOTS = 3,
     FAULTY_PART = 1000,
     NUMBER_BYTES = sizeof(uint64_t)
@@ -78,7 +78,7 @@ static void shift_bytes(struct packet *packet, struct rng *rng)
 static void pick_parts(struct packet *packet, struct rng *rng)
 {
     uint32_t need = (packet->length + TOLLMEANDER_PAGE_SIZE - 1) / TOLLMEANDER_PAGE_SIZE;
-    uint32_t spare = TOLLMEANDER_PACKET_SLOTS_MAX - packet->extras - need;
+    uint32_t spare = TOLLMEANDER_PACKET_DATA_MAX - need;
     uint32_t left = packet->length;
 
     if (spare > MOST_SPARE_SLOTS)

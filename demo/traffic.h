@@ -46,8 +46,8 @@ struct packet {
     uint32_t gso_size;
     uint32_t gso_type;
     uint32_t data_slots;
-    uint32_t part[TOLLMEANDER_PACKET_SLOTS_MAX];
-    uint32_t offset[TOLLMEANDER_PACKET_SLOTS_MAX];
+    uint32_t part[TOLLMEANDER_PACKET_DATA_MAX];
+    uint32_t offset[TOLLMEANDER_PACKET_DATA_MAX];
 };
 
 void frame_pool_fill(struct frame_pool *pool, uint64_t seed);

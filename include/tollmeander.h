@@ -107,8 +107,8 @@ extern "C" {
  *   else 0; status is the octets in this page, or REPLY_ERROR
  *
  * A packet is a data slot; its extras, if bit 3 of its flags is set; and more
- * data slots, if bit 2 is set. It has at most TOLLMEANDER_PACKET_SLOTS_MAX slots,
- * extras counted.
+ * data slots, if bit 2 is set. It has at most TOLLMEANDER_PACKET_DATA_MAX data
+ * slots, the first counted, and at most TOLLMEANDER_PACKET_EXTRAS_MAX extras.
  *
  * NOTE: The size of a packet's first slot is the length of the whole frame. The
  *       part in its own page is that length less the later slots' sizes.
@@ -118,7 +118,9 @@ extern "C" {
  * NOTE: A reply takes the place of the slot that it answers. What the guest
  *       asked is gone after the call, but for a transmit slot's last 8 octets.
  */
-#define TOLLMEANDER_PACKET_SLOTS_MAX    18u
+#define TOLLMEANDER_PACKET_DATA_MAX     18u
+#define TOLLMEANDER_PACKET_EXTRAS_MAX   4u
+#define TOLLMEANDER_PACKET_SLOTS_MAX    22u     /* of both kinds */
 #define TOLLMEANDER_FRAME_MIN           14u
 #define TOLLMEANDER_FRAME_MAX           65535u
 

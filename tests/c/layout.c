@@ -61,7 +61,9 @@ IS(TOLLMEANDER_RING_RSP_EVENT, 12);
 IS(TOLLMEANDER_RING_FIRST_SLOT, 64);
 IS(TOLLMEANDER_TRANSMIT_SLOT_SIZE, 12);
 IS(TOLLMEANDER_RECEIVE_SLOT_SIZE, 8);
-IS(TOLLMEANDER_PACKET_SLOTS_MAX, 18);
+IS(TOLLMEANDER_PACKET_DATA_MAX, 18);
+IS(TOLLMEANDER_PACKET_EXTRAS_MAX, 4);
+IS(TOLLMEANDER_PACKET_SLOTS_MAX, TOLLMEANDER_PACKET_DATA_MAX + TOLLMEANDER_PACKET_EXTRAS_MAX);
 IS(TOLLMEANDER_FRAME_MIN, 14);
 IS(TOLLMEANDER_FRAME_MAX, 65535);
 IS(TOLLMEANDER_GRANT_SIZE, 4);
@@ -79,7 +81,8 @@ enum {
     OUTER_GREF = 7,         /* page 4, which is not in the window */
     GRANTS = 8,
     MORE_DATA = 4,
-    EXTRA_FOLLOWS = 8
+    EXTRA_FOLLOWS = 8,
+    ANOTHER_EXTRA = 1
 };
 
 /* What is lent, and a report between two words that must not be written. */
@@ -360,17 +363,30 @@ static void check_receive_refusals(void)
     CHECK(consumed == 2 && halted == 0);
 }
 
-/* As many slots as the header says make a packet; one more is misshapen. */
-static void check_packet_slots(void)
+/* Posts as many slots of each kind as the header says; the last of each kind has these flags. */
+static void post_longest(uint8_t extra_flags, uint32_t data_flags)
 {
-    const uint32_t most = TOLLMEANDER_PACKET_SLOTS_MAX;
+    const uint32_t extras = TOLLMEANDER_PACKET_EXTRAS_MAX;
+    const uint32_t datas = TOLLMEANDER_PACKET_DATA_MAX;
 
     open_queue(0);
-    for (uint32_t i = 1; i <= most; i++)
-        post_data(READ_GREF, 0, i < most ? MORE_DATA : 0, i, 100);
-    REPORTS(TAKE(), TOLLMEANDER_SPOILED, TOLLMEANDER_CAUSE_SIZES, 0, most, 1, 0);
-    for (uint32_t i = 1; i <= most; i++)
-        post_data(READ_GREF, 0, MORE_DATA, i, 100);
+    post_data(READ_GREF, 0, MORE_DATA | EXTRA_FOLLOWS, 1, 60 * datas);
+    for (uint32_t i = 1; i <= extras; i++)
+        post_extra(1, i < extras ? ANOTHER_EXTRA : extra_flags, 1460, 1);
+    for (uint32_t i = 2; i <= datas; i++)
+        post_data(READ_GREF, 0, i < datas ? MORE_DATA : data_flags, i, 60);
+}
+
+/* They make a packet; where one of either kind more is promised, they are misshapen. */
+static void check_packet_slots(void)
+{
+    const uint32_t total = 60 * TOLLMEANDER_PACKET_DATA_MAX;
+
+    post_longest(0, 0);
+    REPORTS(TAKE(), TOLLMEANDER_DONE, 0, 0, TOLLMEANDER_PACKET_SLOTS_MAX, 1, total, 0, 0, 1460, 1);
+    post_longest(ANOTHER_EXTRA, 0);
+    REPORTS(TAKE(), TOLLMEANDER_MISSHAPEN, 0);
+    post_longest(0, MORE_DATA);
     REPORTS(TAKE(), TOLLMEANDER_MISSHAPEN, 0);
 }
 

@@ -61,8 +61,22 @@ pub const MUTANTS: &[Mutant] = &[
         "extra_read_as_data",
         &[edit("transmit.rs", "slots[1 + extras..].iter().map(data)", "slots[1..].iter().map(data)")],
     ),
-    mutant("nineteen_slots", &[edit("grammar.rs", "LIMIT: usize = 18", "LIMIT: usize = 19")]),
-    mutant("seventeen_slots", &[edit("grammar.rs", "LIMIT: usize = 18", "LIMIT: usize = 17")]),
+    mutant("nineteen_data_slots", &[edit("grammar.rs", "DATA_LIMIT: usize = 18", "DATA_LIMIT: usize = 19")]),
+    mutant("seventeen_data_slots", &[edit("grammar.rs", "DATA_LIMIT: usize = 18", "DATA_LIMIT: usize = 17")]),
+    mutant("five_extras", &[edit("grammar.rs", "EXTRA_LIMIT: usize = 4", "EXTRA_LIMIT: usize = 5")]),
+    mutant("three_extras", &[edit("grammar.rs", "EXTRA_LIMIT: usize = 4", "EXTRA_LIMIT: usize = 3")]),
+    mutant(
+        "extras_counted_as_data",
+        &[edit("grammar.rs", "slots.len() - extras <= DATA_LIMIT", "slots.len() <= DATA_LIMIT")],
+    ),
+    mutant(
+        "limit_on_the_sum_only",
+        &[edit(
+            "grammar.rs",
+            "slots.len() - extras <= DATA_LIMIT && extras <= EXTRA_LIMIT",
+            "slots.len() <= LIMIT && extras < slots.len()",
+        )],
+    ),
     mutant(
         "slots_owed_not_counted",
         &[edit(

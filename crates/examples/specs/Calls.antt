@@ -47,6 +47,10 @@ withExtra type = dataSlot 0 8 1 60 ∷ extraA type ∷ []
 abbrev pub withExtras : ℕ → List Slot
 withExtras n = dataSlot 0 12 1 60 ∷ replicate n (1 ∷ 1 ∷ zeros 10)
 
+-- eighteen data slots, all bytes in the first; between them one extra, and before it so many that each announce another
+abbrev pub eighteen : ℕ → List Slot
+eighteen n = withExtras n ++ (extraA 1 ∷ replicate 16 (dataSlot 0 4 2 0)) ++ (dataSlot 0 0 3 0 ∷ [])
+
 -- ---- ring pages
 
 -- a page's header: req_prod and rsp_event, and 0 between them

@@ -1,4 +1,4 @@
--- Document 01's examples: one table, and one claim over it.
+-- Document 01's examples and those of its limit by request 1: one table, and one claim over it.
 use mathlib.Core.Path.{_≡_}
 use mathlib.Core.List.{List, [], _∷_, map}
 use Prim.Native.Nat.{ℕ, _+_, _*_}
@@ -9,7 +9,7 @@ use Rattle.grant.specs.Grant.{granted, writable, pageOf}
 use Rattle.netif.specs.Slot.{slotWidth, slotCount, gref, offset, ident, size, gsoSize, gsoType, okay, error}
 use Rattle.netif.specs.Report.{halt, goOn, flag}
 use Rattle.packet.specs.Judge.{parts, dataReply, extraReply}
-use Rattle.examples.specs.Calls.{zeros, slotA, extraA, request, one, two, three, withExtra, withExtras, header, ringPage, takesOn, takes, puts, answered, reported, taken, delivered, slotOf, requestOf}
+use Rattle.examples.specs.Calls.{zeros, slotA, extraA, request, one, two, three, withExtra, withExtras, eighteen, header, ringPage, takesOn, takes, puts, answered, reported, taken, delivered, slotOf, requestOf}
 
 -- a row: the example's name, what is computed, and what is expected
 pub record Row : Type 0 where
@@ -54,8 +54,11 @@ rows =
     ∷ ("receive length 4097: flags 0, status 1" ∣ requestOf (puts (request 9 ∷ request 10 ∷ []) 4097) 1 ⇒ 0x0A ∷ 0x00 ∷ 0x00 ∷ 0x00 ∷ 0x00 ∷ 0x00 ∷ 0x01 ∷ 0x00 ∷ [])
     -- the examples of its other sections
     ∷ ("grant word 0D: page 3, granted, not writable" ∣ pageOf (u32Bytes 0x0D) 0 ∷ flag (granted (u32Bytes 0x0D) 0) ∷ flag (writable (u32Bytes 0x0D) 0) ∷ [] ⇒ 3 ∷ 1 ∷ 0 ∷ [])
-    ∷ ("another extra announced in the sixteenth place: waiting" ∣ answered (takes (withExtras 15)) ⇒ 6 ∷ 0 ∷ 0 ∷ [])
-    ∷ ("another extra announced in the seventeenth place: misshapen" ∣ answered (takes (withExtras 16)) ⇒ 5 ∷ 0 ∷ 0 ∷ [])
+    -- the limit, as request 1 has it
+    ∷ ("18 data slots, one extra: done" ∣ answered (takes (eighteen 0)) ⇒ 0 ∷ 0 ∷ 0 ∷ [])
+    ∷ ("18 data slots, four extras: slots, notify, total, gso size, gso type" ∣ reported (takes (eighteen 3)) ⇒ 22 ∷ 1 ∷ 60 ∷ 1460 ∷ 1 ∷ [])
+    ∷ ("another extra announced by the third: waiting" ∣ answered (takes (withExtras 3)) ⇒ 6 ∷ 0 ∷ 0 ∷ [])
+    ∷ ("another extra announced by the fourth: misshapen" ∣ answered (takes (withExtras 4)) ⇒ 5 ∷ 0 ∷ 0 ∷ [])
     -- the answers that none of these has, and what is left: the answer, the counter, the mark and req_event
     ∷ ("a page of 4095 bytes: bad page" ∣ taken (takesOn (goOn 0) (zeros 4095) 65535) ⇒ 1 ∷ 0 ∷ 0 ∷ 0 ∷ [])
     ∷ ("a halted queue: halted already" ∣ taken (takesOn (halt (goOn 0)) (ringPage 1 (one 14)) 65535) ⇒ 2 ∷ 0 ∷ 1 ∷ 0 ∷ [])

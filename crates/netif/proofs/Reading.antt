@@ -46,13 +46,13 @@ gso-type-front (suc e) n l h = rw (getD-take n l (suc e) [] h)
 module _ (page : List ℕ) (first posted : ℕ) where
   -- the first slot and the extras behind it: what the whole run comes to
   pub extras-read : (head : DataSlot) (x m : Bool) (r : Extras) → 1 ≤ posted → head ≡ dataOf (slotAt 12 256 page first) → x ≡ bit 3 (head .flags) → m ≡ bit 2 (head .flags)
-      → ExtrasRead page first posted x m r → (s : Shape) → r .shape ≡ s
+      → ExtrasRead page first posted x r → (s : Shape) → r .shape ≡ s
       → divide (slotsFrom 12 256 page first posted) ≡ goingOn s (scan (behind page first posted (r .count + 1)) 1 (r .count) false m)
   unfolding divide
   extras-read head x m r h f p q e s i =
       let z : posted ≡ suc (posted - 1) = omega arith in
       ap (λ (k : ℕ). divide (slotsFrom 12 256 page first k)) z
-      ∙ rw (sym (follows-bit _ head f) ∙ sym p, sym (more-bit _ head f) ∙ sym q, ← add-one first) (e .rest)
+      ∙ rw (sym (follows-bit _ head f) ∙ sym p, sym (more-bit _ head f) ∙ sym q, ← add-one first) (e .rest m)
       ∙ ap (λ (t : Shape). goingOn t (scan (behind page first posted (r .count + 1)) 1 (r .count) false m)) i
 
   -- ---- a packet of k later data slots and e extras

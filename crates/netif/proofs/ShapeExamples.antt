@@ -29,22 +29,29 @@ a ⇒ b = record { run = a; front = b }
 
 pub rows : List Row
 rows =
-    -- eighteen data slots pass; bit 2 on the eighteenth is misshapen; seventeen with bit 2 wait
+    -- eighteen data slots pass; bit 2 on the eighteenth is misshapen, and so is a nineteenth; seventeen with bit 2 wait
     (replicate 17 (datum 4) ++ (datum 0 ∷ []) ⇒ whole 18 0)
     ∷ (replicate 18 (datum 4) ⇒ misshapen)
+    ∷ (replicate 18 (datum 4) ++ (datum 0 ∷ []) ⇒ misshapen)
     ∷ (replicate 17 (datum 4) ⇒ beginning)
     -- an extra has type 1, and neither 0 nor 2
     ∷ (datum 8 ∷ extra 1 0 ∷ [] ⇒ whole 1 1)
     ∷ (datum 8 ∷ extra 0 0 ∷ [] ⇒ misshapen)
     ∷ (datum 8 ∷ extra 2 0 ∷ [] ⇒ misshapen)
-    -- with more data promised, an extra with bit 0 in the seventeenth place is misshapen; without bit 0 it waits
-    ∷ (datum 12 ∷ replicate 16 (extra 1 1) ⇒ misshapen)
-    ∷ (datum 12 ∷ replicate 15 (extra 1 1) ⇒ beginning)
-    ∷ (datum 12 ∷ replicate 15 (extra 1 1) ++ (extra 1 0 ∷ []) ⇒ beginning)
-    -- with none promised it waits there, and is misshapen in the eighteenth place
-    ∷ (datum 8 ∷ replicate 16 (extra 1 1) ⇒ beginning)
-    ∷ (datum 8 ∷ replicate 17 (extra 1 1) ⇒ misshapen)
-    ∷ (datum 8 ∷ replicate 16 (extra 1 1) ++ (extra 1 0 ∷ []) ⇒ whole 1 17)
+    -- four extras pass; bit 0 on the fourth is misshapen, and so is a fifth; three with bit 0 wait
+    ∷ (datum 8 ∷ replicate 3 (extra 1 1) ++ (extra 1 0 ∷ []) ⇒ whole 1 4)
+    ∷ (datum 8 ∷ replicate 4 (extra 1 1) ⇒ misshapen)
+    ∷ (datum 8 ∷ replicate 4 (extra 1 1) ++ (extra 1 0 ∷ []) ⇒ misshapen)
+    ∷ (datum 8 ∷ replicate 3 (extra 1 1) ⇒ beginning)
+    -- the same with more data promised
+    ∷ (datum 12 ∷ replicate 3 (extra 1 1) ++ (extra 1 0 ∷ []) ⇒ beginning)
+    ∷ (datum 12 ∷ replicate 4 (extra 1 1) ⇒ misshapen)
+    ∷ (datum 12 ∷ replicate 3 (extra 1 1) ⇒ beginning)
+    -- eighteen data slots with one extra and with four pass; twenty-one slots of these wait; bit 2 on the last is misshapen
+    ∷ (datum 12 ∷ extra 1 0 ∷ replicate 16 (datum 4) ++ (datum 0 ∷ []) ⇒ whole 18 1)
+    ∷ (datum 12 ∷ replicate 3 (extra 1 1) ++ (extra 1 0 ∷ replicate 16 (datum 4)) ++ (datum 0 ∷ []) ⇒ whole 18 4)
+    ∷ (datum 12 ∷ replicate 3 (extra 1 1) ++ (extra 1 0 ∷ replicate 16 (datum 4)) ⇒ beginning)
+    ∷ (datum 12 ∷ replicate 3 (extra 1 1) ++ (extra 1 0 ∷ replicate 17 (datum 4)) ⇒ misshapen)
     -- bit 3 on a later data slot; what follows a packet is not asked
     ∷ (datum 4 ∷ datum 8 ∷ [] ⇒ misshapen)
     ∷ (datum 0 ∷ extra 2 0 ∷ [] ⇒ whole 1 0)

@@ -53,11 +53,11 @@ module _ (page : List ℕ) (first posted : ℕ) where
   abbrev pub behind : ℕ → List Slot
   behind i = slotsFrom slotWidth slotCount page (first + i) (posted - i)
 
-  -- the extras were read: announced says whether any was owed, more whether data is
-  pub record ExtrasRead (announced more : Bool) (r : Extras) : Type 0 where
+  -- the extras were read: announced says whether any was owed; whether data is owed makes no difference to them
+  pub record ExtrasRead (announced : Bool) (r : Extras) : Type 0 where
     pub few : r .count + 1 ≤ posted
     pub limit : within 1 (r .count) ≡ true
-    pub rest : scan (behind 1) 1 0 announced more ≡ goingOn (r .shape) (scan (behind (r .count + 1)) 1 (r .count) false more)
+    pub rest : (more : Bool) → scan (behind 1) 1 0 announced more ≡ goingOn (r .shape) (scan (behind (r .count + 1)) 1 (r .count) false more)
     pub gsoSize : r .«gso_size» ≡ gsoSizeOf (r .count) (slotsFrom slotWidth slotCount page first posted)
     pub gsoType : r .«gso_type» ≡ gsoTypeOf (r .count) (slotsFrom slotWidth slotCount page first posted)
 

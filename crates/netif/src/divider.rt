@@ -6,7 +6,7 @@ ghost use lib.ListN.{length};
 ghost use Rattle.ring.specs.Ring.{pageSize, slotAt, slotsFrom};
 ghost use Rattle.netif.specs.Slot.{slotWidth, slotCount};
 ghost use Rattle.netif.specs.Grammar.{within};
-ghost use Rattle.netif.specs.Divide.{owed, alone};
+ghost use Rattle.netif.specs.Divide.{alone};
 ghost use Rattle.netif.specs.Front.{ExtrasRead, LaterRead, FrontRead, AfterExtras};
 use crate::DataSlot;
 use crate::Extra;
@@ -53,17 +53,9 @@ pub enum Front {
 
 // Whether a packet may have so many data slots and extras.
 pub fn fits(datas: u32, extras: u32) -> bool
-    requires { ⌜ (datas ≤ 1000) × (extras ≤ 1000) ⌝ }
     ensures { λ r. ⌜ r ≡ within datas extras ⌝ }
 {
-    datas + extras <= 18
-}
-
-// The least number of slots that an announcement asks for.
-pub fn owed_by(announced: bool) -> u32
-    ensures { λ r. ⌜ (r ≡ owed announced) × (r ≤ 1) ⌝ }
-{
-    if announced { 1 } else { 0 }
+    datas <= 18 && extras <= 4
 }
 
 // Whether the first slot is a packet by itself: it announces neither an extra nor more data.
@@ -92,18 +84,17 @@ fn extras_so_far(shape: Shape, count: u32, gso_size: u16, gso_type: u8) -> Extra
     }
 }
 
-// The extras behind the first slot, if it announced any; more says whether it announced more data.
-fn read_extras(page: &[u8], first: u32, posted: u32, announced: bool, more: bool) -> Extras
+// The extras behind the first slot, if it announced any. A data slot that is still owed makes no difference to the limit.
+fn read_extras(page: &[u8], first: u32, posted: u32, announced: bool) -> Extras
     requires { ⌜ (length (now page) ≡ pageSize) × (1 ≤ posted) × (posted ≤ 256) ⌝ }
-    ensures { λ r. ⌜ ExtrasRead (now (page .entry)) first posted announced more r ⌝ }
+    ensures { λ r. ⌜ ExtrasRead (now (page .entry)) first posted announced r ⌝ }
 {
     let mut count: u32 = 0;
     let mut another = announced;
     let mut gso_size: u16 = 0;
     let mut gso_type: u8 = 0;
-    let need = 1 + owed_by(more);
     while another {
-        if !fits(need, count + 1) {
+        if !fits(1, count + 1) {
             return extras_so_far(Shape::Misshapen, count, gso_size, gso_type);
         }
         if count + 1 == posted {
@@ -222,7 +213,7 @@ pub fn read(page: &[u8], first: u32, posted: u32, sizes: &mut [u16; 18]) -> Fron
 {
     let head = DataSlot::at(page, first);
     let more = head.more_data();
-    let extras = read_extras(page, first, posted, head.extra_follows(), more);
+    let extras = read_extras(page, first, posted, head.extra_follows());
     let shape = extras.shape;
     match shape {
         Shape::Misshapen => Front::Misshapen,

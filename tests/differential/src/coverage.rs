@@ -72,30 +72,46 @@ const COMMON: &[Boundary] = &[
 
 /// Boundaries of the transmit call.
 const TRANSMIT: &[Boundary] = &[
-    ("done: 18 slots, no extra", |f| f.packet_is(DONE, |p| p.slots == 18 && p.extras == 0)),
-    ("done: 18 slots with extras", |f| f.packet_is(DONE, |p| p.slots == 18 && p.extras > 0)),
-    ("done: 17 extras", |f| f.packet_is(DONE, |p| p.extras == 17)),
-    ("done: several extras", |f| f.packet_is(DONE, |p| p.extras > 1)),
+    ("posted 22", |f| f.posted == Some(22)),
+    ("done: 18 data slots, no extra", |f| f.packet_is(DONE, |p| p.slots == 18 && p.extras == 0)),
+    ("done: 18 data slots, 1 extra", |f| f.packet_is(DONE, |p| p.slots == 19 && p.extras == 1)),
+    ("done: 18 data slots, 4 extras", |f| f.packet_is(DONE, |p| p.slots == 22 && p.extras == 4)),
+    ("done: 1 data slot, 4 extras", |f| f.packet_is(DONE, |p| p.slots == 5 && p.extras == 4)),
     ("done: more is posted behind the packet", |f| f.answer() == DONE && f.posted > Some(f.slots().into())),
     ("waiting: 1 slot", |f| f.answer() == WAITING && f.posted == Some(1)),
     ("waiting: 17 slots", |f| f.answer() == WAITING && f.posted == Some(17)),
+    ("waiting: 21 slots", |f| f.answer() == WAITING && f.posted == Some(21)),
+    ("waiting: bit 0 on extra 3", |f| f.waits_for_extra(4)),
     ("misshapen: extra of type 0", |f| f.fault_is(|x| x.extra_due && extra(&x.slot).kind == 0)),
     ("misshapen: extra of type 2", |f| f.fault_is(|x| x.extra_due && extra(&x.slot).kind == 2)),
     ("misshapen: bit 3 on a later slot", |f| {
         f.fault_is(|x| x.number > 1 && !x.extra_due && data(&x.slot).extra_follows)
     }),
-    ("misshapen: bit 2 in place 18, no extra", |f| {
-        f.fault_is(|x| x.number == 18 && !x.first.extra_follows && data(&x.slot).more_data)
+    ("misshapen: bit 2 on data slot 18, no extra", |f| {
+        f.fault_is(|x| x.number == 18 && x.extras == 0 && data(&x.slot).more_data)
     }),
-    ("misshapen: bit 2 in place 18 after extras", |f| {
-        f.fault_is(|x| x.number == 18 && x.first.extra_follows && !x.extra_due && data(&x.slot).more_data)
+    ("misshapen: 19 data slots posted", |f| {
+        f.posted >= Some(19) && f.fault_is(|x| x.number == 18 && x.extras == 0 && data(&x.slot).more_data)
     }),
-    ("misshapen: extra goes on in place 17, data owed", |f| {
-        f.fault_is(|x| x.number == 17 && x.extra_due && x.first.more_data && extra(&x.slot).kind == 1)
+    ("misshapen: bit 2 on data slot 18, 1 extra", |f| {
+        f.fault_is(|x| x.number == 19 && x.extras == 1 && data(&x.slot).more_data)
     }),
-    ("misshapen: in place 17, 17 posted", |f| f.posted == Some(17) && f.fault_is(|x| x.number == 17)),
-    ("misshapen: extra goes on in place 18", |f| {
-        f.fault_is(|x| x.number == 18 && x.extra_due && !x.first.more_data && extra(&x.slot).kind == 1)
+    ("misshapen: bit 2 on data slot 18, 4 extras", |f| {
+        f.fault_is(|x| x.number == 22 && x.extras == 4 && data(&x.slot).more_data)
+    }),
+    ("misshapen: in place 22, 22 posted", |f| f.posted == Some(22) && f.fault_is(|x| x.number == 22)),
+    ("misshapen: bit 0 on extra 4, data promised", |f| {
+        f.fault_is(|x| x.number == 5 && x.extra_due && x.first.more_data && extra(&x.slot).kind == 1)
+    }),
+    ("misshapen: bit 0 on extra 4, no data promised", |f| {
+        f.fault_is(|x| x.number == 5 && x.extra_due && !x.first.more_data && extra(&x.slot).kind == 1)
+    }),
+    ("misshapen: bit 0 on extra 4, 5 posted", |f| {
+        f.posted == Some(5) && f.fault_is(|x| x.number == 5 && x.extra_due && extra(&x.slot).kind == 1)
+    }),
+    ("misshapen: 5 extras posted", |f| {
+        let fifth = f.run.get(5).is_some_and(|slot| extra(slot).kind == 1);
+        fifth && f.fault_is(|x| x.number == 5 && x.extra_due && extra(&x.slot).kind == 1)
     }),
     ("cause 1: total 13", |f| f.cause() == 1 && f.packet_is(SPOILED, |p| p.total == 13)),
     ("done: total 14", |f| f.packet_is(DONE, |p| p.total == 14)),

@@ -3,7 +3,7 @@
 use crate::case::{Answer, Case, State};
 use reference::calls::{Ring, Words};
 use reference::grammar::{begins_packet, front, Front};
-use reference::report::{MISSHAPEN, SPOILED};
+use reference::report::{MISSHAPEN, SPOILED, WAITING};
 use reference::ring::{posted, slots, PAGE_BYTES, RING_SLOTS};
 use reference::slots::{data, extra, request, Data, Extra, Slot};
 use reference::transmit::{later_sizes, pieces, read, Piece};
@@ -14,6 +14,8 @@ pub struct Facts<'a> {
     pub words: Words,
     /// Slots posted, where the ring page has 4,096 bytes.
     pub posted: Option<u64>,
+    /// The slots posted on a transmit ring.
+    pub run: Vec<Slot>,
     /// The packet that was settled.
     pub packet: Option<Packet>,
     /// Why a run is misshapen.
@@ -37,6 +39,8 @@ pub struct Fault {
     /// Its position, counted from 1.
     pub number: usize,
     pub slot: Slot,
+    /// The extras before it.
+    pub extras: usize,
     /// An extra was due there.
     pub extra_due: bool,
     pub first: Data,
@@ -48,16 +52,17 @@ impl Facts<'_> {
         let page = &before.page;
         let consumed = before.consumed.into();
         let posted = (page.len() == PAGE_BYTES).then(|| posted(page, consumed));
-        let mut facts =
-            Facts { before, words: answer.words, posted, packet: None, fault: None, requests: Vec::new() };
+        let words = answer.words;
+        let (run, requests) = (Vec::new(), Vec::new());
+        let mut facts = Facts { before, words, posted, run, packet: None, fault: None, requests };
         match (case.ring, posted) {
             (Ring::Transmit, Some(posted @ 1..=RING_SLOTS)) => {
-                let run: Vec<Slot> = slots(page, consumed, posted);
-                facts.packet = packet(&run);
-                facts.fault = (answer.words[0] == MISSHAPEN).then(|| fault(&run));
+                facts.run = slots(page, consumed, posted);
+                facts.packet = packet(&facts.run);
+                facts.fault = (words[0] == MISSHAPEN).then(|| fault(&facts.run));
             }
             (Ring::Receive, Some(_)) => {
-                let taken = slots(page, consumed, answer.words[3].into());
+                let taken = slots(page, consumed, words[3].into());
                 facts.requests = taken.iter().map(|slot| request(slot).gref).collect();
             }
             _ => {}
@@ -115,6 +120,15 @@ impl Facts<'_> {
         self.answer() == answer && self.packet.as_ref().is_some_and(holds)
     }
 
+    /// Whether the call waits for the extra of a number, all slots before it being posted.
+    pub fn waits_for_extra(&self, number: usize) -> bool {
+        let promised = |slots: &[Slot]| slots.iter().all(|slot| extra(slot).another_follows);
+        self.answer() == WAITING
+            && self.run.len() == number
+            && data(&self.run[0]).extra_follows
+            && promised(&self.run[1..])
+    }
+
     /// Whether the run is misshapen for a fault of which something holds.
     pub fn fault_is(&self, holds: fn(&Fault) -> bool) -> bool {
         self.fault.as_ref().is_some_and(holds)
@@ -137,6 +151,9 @@ fn packet(run: &[Slot]) -> Option<Packet> {
 fn fault(run: &[Slot]) -> Fault {
     let number = (1..=run.len()).find(|&count| !begins_packet(&run[..count])).expect("a misshapen run");
     let first = data(&run[0]);
-    let promised = run[1..number - 1].iter().all(|slot| extra(slot).another_follows);
-    Fault { number, slot: run[number - 1], extra_due: first.extra_follows && promised, first }
+    let before = &run[1..number - 1];
+    let promised = before.iter().take_while(|slot| extra(slot).another_follows).count();
+    let extras = if first.extra_follows { before.len().min(promised + 1) } else { 0 };
+    let extra_due = first.extra_follows && promised == before.len();
+    Fault { number, slot: run[number - 1], extras, extra_due, first }
 }

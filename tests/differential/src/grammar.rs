@@ -1,4 +1,4 @@
-//! The grammar by enumeration: every run of up to four slots, and every shape of up to twenty.
+//! The grammar by enumeration: every run of up to four slots, and every shape of up to twenty-four.
 
 use crate::bytes::{put_u16, put_u32};
 use crate::case::{Case, State, REFERENCE};
@@ -10,12 +10,13 @@ use crate::library::Library;
 use crate::packet::{Packet, Shape};
 use crate::random::Random;
 use reference::calls::Ring;
+use reference::grammar::LIMIT;
 use reference::slots::Slot;
 
 /// The longest run of which every combination of slots is tried.
 const LONGEST_RUN: u32 = 4;
 /// The most slots of a shape: two more than a packet may have.
-const LONGEST_SHAPE: usize = 20;
+const LONGEST_SHAPE: usize = LIMIT + 2;
 
 /// Checks all runs and shapes, and gives their number.
 pub fn check_all(library: &mut Library) -> Result<u64, String> {
@@ -54,7 +55,7 @@ fn short_run(number: u32, length: u32) -> Case {
     Case { ring: Ring::Transmit, before }
 }
 
-/// Every shape of up to twenty slots.
+/// Every shape of up to twenty-four slots.
 fn shapes() -> Vec<Shape> {
     let mut shapes = Vec::new();
     for slots in 1..=LONGEST_SHAPE {

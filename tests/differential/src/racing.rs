@@ -6,6 +6,7 @@ use crate::guarded::Guarded;
 use crate::library::{call, Parameters};
 use crate::random::Random;
 use reference::calls::Ring;
+use reference::grammar::{DATA_LIMIT, LIMIT};
 use reference::report::{DONE, NAMES, SPOILED};
 use reference::ring::{slot_at, PAGE_BYTES};
 use reference::slots::{RECEIVE_WIDTH, TRANSMIT_WIDTH};
@@ -16,7 +17,7 @@ use std::time::{Duration, Instant};
 /// A call that has not ended after so long never will.
 const CALL_TIMEOUT: Duration = Duration::from_secs(10);
 /// Slots from the counter on that are posted and rewritten: all that a call reads.
-const RACED_SLOTS: usize = 20;
+const RACED_SLOTS: usize = LIMIT + 2;
 /// The guest's longest pause between two rewrites, in turns of a loop.
 const LONGEST_PAUSE: usize = 40;
 /// Rewrites with pauses in a loop, then rewrites with sleeps, in turn; and rewrites to one sleep.
@@ -127,7 +128,7 @@ impl Race {
 
     /// Posts a packet, or as many requests as the largest frame needs.
     fn post(&self, random: &Random, consumed: u32) {
-        let slots = random.between(1, 18);
+        let slots = random.between(1, DATA_LIMIT);
         let size = random.pick(&[60, 1000, 3640]);
         for k in 0..RACED_SLOTS {
             let n = u64::from(consumed) + k as u64;

@@ -6,7 +6,7 @@ use crate::lending::{Lending, Refusal};
 use crate::packet::{Packet, Shape};
 use crate::random::Random;
 use reference::calls::Ring;
-use reference::grammar::LIMIT;
+use reference::grammar::{DATA_LIMIT, EXTRA_LIMIT};
 
 /// The answer or cause that a change aims at. Where there are two changes, the earlier answer comes out.
 #[derive(Clone, Copy, PartialEq, Eq)]
@@ -63,24 +63,27 @@ pub fn case(random: &Random) -> Case {
     draft.lending.case(random, Ring::Transmit, &draft.packet.slots)
 }
 
-/// The shape of a packet with at least so many extras and later slots.
+/// The shape of a packet with at least so many extras and later slots; now and then the longest there is.
 pub fn packet_shape(random: &Random, extras_needed: usize, later_needed: usize) -> Shape {
-    let needed = 1 + extras_needed + later_needed;
-    let slots = random.pick(&[1, 1, 2, 3, 4, random.between(1, LIMIT), 17, 18, 18]).max(needed);
-    let most = slots - 1 - later_needed;
-    let extras = random.pick(&[0, 1, 2, most, random.between(0, most)]).clamp(extras_needed, most);
-    Shape::packet(extras, slots - 1 - extras)
+    let most = DATA_LIMIT - 1;
+    if random.one_in(10) {
+        return Shape::packet(EXTRA_LIMIT, most);
+    }
+    let extras = random.pick(&[0, 0, 0, 1, 1, 2, EXTRA_LIMIT - 1, EXTRA_LIMIT]);
+    let later = random.pick(&[0, 0, 1, 2, 3, random.between(0, most), most - 1, most]);
+    Shape::packet(extras.max(extras_needed), later.max(later_needed))
 }
 
-/// A shape of more than 18 slots, or one whose flags promise more than 18.
+/// A shape with more data slots or extras than a packet may have, or one whose flags promise more.
 pub fn long_shape(random: &Random) -> Shape {
-    let extras = random.pick(&[0, 1, 2, 15, 16, 17, 18, random.between(0, 18)]);
-    let open = Shape { extras, later: 0, more: true, extras_end: false, later_end: false };
+    let extras = random.pick(&[0, 1, random.between(0, EXTRA_LIMIT), EXTRA_LIMIT]);
+    let later = random.pick(&[0, 1, random.between(0, DATA_LIMIT - 1), DATA_LIMIT - 1]);
+    let more = later > 0 || random.one_in(2);
     match random.below(4) {
-        0 => Shape::packet(extras, random.between(LIMIT - extras, LIMIT + 2 - extras).max(1)),
-        1 => Shape { later: (LIMIT - 1).saturating_sub(extras), extras_end: true, ..open },
-        2 => Shape { extras: extras.max(1), ..open },
-        _ => Shape { extras: extras.max(1), more: false, ..open },
+        0 => Shape::packet(extras, random.between(DATA_LIMIT, DATA_LIMIT + 1)),
+        1 => Shape { later_end: false, ..Shape::packet(extras, DATA_LIMIT - 1) },
+        2 => Shape::packet(random.between(EXTRA_LIMIT + 1, EXTRA_LIMIT + 2), later),
+        _ => Shape { more, extras_end: false, ..Shape::packet(EXTRA_LIMIT, later) },
     }
 }
 
@@ -94,7 +97,8 @@ impl Draft {
         let shape = packet_shape(random, extras, later);
         let packet = Packet::new(random, &guest, shape);
         let slots = packet.slots.len();
-        let posted = random.pick(&[slots, slots, slots + 1, 17, 18, 19, 255, 256, random.between(1, 256)]);
+        let posted =
+            random.pick(&[slots, slots, slots + 1, 17, 18, 19, 22, 255, 256, random.between(1, 256)]);
         let total = packet.total();
         let frame_bytes = random.pick(&[total, total, total + 1, total + 64, 65_535]);
         Draft { packet, lending: Lending::new(guest, posted.max(slots), frame_bytes) }
@@ -122,7 +126,7 @@ impl Draft {
                 self.lending.frame_bytes = random.pick(&[below, below, 0, random.between(0, below)]);
             }
             Aim::Noise => {
-                let count = random.between(1, 20);
+                let count = random.between(1, 24);
                 let packet = Packet::noise(random, &self.lending.guest, count);
                 self.replace(random, packet);
             }
@@ -132,7 +136,8 @@ impl Draft {
     /// Puts other slots in the packet's place, and posts up to all of them.
     fn replace(&mut self, random: &Random, packet: Packet) {
         let slots = packet.slots.len();
-        self.lending.posted = random.pick(&[slots, slots, slots.min(17), slots.min(18), slots + 1]) as u32;
+        self.lending.posted =
+            random.pick(&[slots, slots, slots.min(5), slots.min(18), slots.min(22), slots + 1]) as u32;
         self.packet = packet;
     }
 

@@ -2,8 +2,12 @@
 
 use super::slots::{data, extra, Slot};
 
-/// The most slots of a packet, extras counted.
-pub const LIMIT: usize = 18;
+/// The most data slots of a packet.
+pub const DATA_LIMIT: usize = 18;
+/// The most extras of a packet.
+pub const EXTRA_LIMIT: usize = 4;
+/// The most slots of a packet.
+pub const LIMIT: usize = DATA_LIMIT + EXTRA_LIMIT;
 /// The type that every extra has.
 pub const EXTRA_KIND: u64 = 1;
 
@@ -42,7 +46,8 @@ pub fn division(run: &[Slot]) -> (Vec<&[Slot]>, &[Slot]) {
 
 /// Whether the slots are one packet, from the first to the last.
 pub fn is_packet(slots: &[Slot]) -> bool {
-    slots.len() <= LIMIT && extras_of(slots).is_some()
+    let within = |extras| slots.len() - extras <= DATA_LIMIT && extras <= EXTRA_LIMIT;
+    extras_of(slots).is_some_and(within)
 }
 
 /// The number of extras with which the slots are laid out as a packet, of any length.

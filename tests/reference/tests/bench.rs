@@ -165,22 +165,40 @@ fn an_extra_asks_for_gso() {
 }
 
 #[test]
-fn eighteen_slots_and_no_more() {
+fn eighteen_data_slots_and_no_more() {
     let mut slots = sized(&[(100, MORE); 18]);
     assert_eq!(front(&slots), Front::Misshapen);
     assert_eq!(front(&slots[..17]), Front::Beginning);
     slots[17] = slot(0, 0, 0, 7, 0);
     assert_eq!(front(&slots), Front::Packet(18));
+    slots[17] = slot(0, 0, MORE, 7, 0);
+    slots.push(slot(0, 0, 0, 7, 0));
+    assert_eq!(front(&slots), Front::Misshapen);
 }
 
 #[test]
-fn extras_up_to_the_seventeenth_place() {
-    let chain = |flags| [vec![slot(0, 0, flags, 7, 60)], vec![gso(1, 1); 17]].concat();
-    let (with_more, without) = (chain(EXTRA | MORE), chain(EXTRA));
-    assert!(begins_packet(&with_more[..16]));
-    assert!(!begins_packet(&with_more[..17]));
-    assert!(begins_packet(&without[..17]));
-    assert!(!begins_packet(&without[..18]));
+fn four_extras_and_no_more() {
+    for flags in [EXTRA, EXTRA | MORE] {
+        let chain = [vec![slot(0, 0, flags, 7, 60)], vec![gso(1, 1); 4], vec![gso(1, 0)]].concat();
+        assert!(begins_packet(&chain[..4]));
+        assert!(!begins_packet(&chain[..5]));
+        assert_eq!(front(&chain), Front::Misshapen);
+    }
+    let four = [vec![slot(0, 0, EXTRA, 7, 60)], vec![gso(1, 1); 3], vec![gso(1, 0)]].concat();
+    assert_eq!(front(&four), Front::Packet(5));
+}
+
+#[test]
+fn eighteen_data_slots_with_extras() {
+    for extras in [1, 4] {
+        let first = [vec![slot(0, 0, EXTRA | MORE, 7, 60)], vec![gso(1, 1); extras - 1], vec![gso(1, 0)]];
+        let mut slots = [first.concat(), sized(&[(0, MORE); 16]), sized(&[(0, 0)])].concat();
+        assert_eq!(front(&slots), Front::Packet(18 + extras));
+        assert_eq!(verdict(Bench::with_slots(0, &slots).take()), [0, 0, 0]);
+        assert_eq!(front(&slots[..17 + extras]), Front::Beginning);
+        slots[17 + extras] = slot(0, 0, MORE, 7, 0);
+        assert_eq!(front(&slots), Front::Misshapen);
+    }
 }
 
 #[test]

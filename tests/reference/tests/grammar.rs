@@ -3,13 +3,17 @@
 
 #![deny(warnings)]
 
-use reference::grammar::{begins_packet, front, is_packet, Front, LIMIT};
+use reference::grammar::{begins_packet, front, is_packet, Front, DATA_LIMIT, EXTRA_LIMIT, LIMIT};
 use reference::slots::Slot;
 
+/// An extra that promises another, one that does not, and a later data slot that promises another.
+const EXTRA_ON: Slot = letter(3);
+const EXTRA_LAST: Slot = letter(1);
+const DATA_ON: Slot = letter(4);
+
 /// A slot as the grammar sees it: bits 2 and 3 of its flags as data, type and bit 0 as an extra.
-fn letter(n: usize) -> Slot {
-    let bit = |k: usize| (n >> k & 1) as u8;
-    [bit(0), bit(1), 0, 0, 0, 0, bit(2) * 4 + bit(3) * 8, 0, 0, 0, 0, 0]
+const fn letter(n: u8) -> Slot {
+    [n & 1, n >> 1 & 1, 0, 0, 0, 0, n & 12, 0, 0, 0, 0, 0]
 }
 
 /// All runs of at most `length` letters.
@@ -32,13 +36,19 @@ fn chain(flags: u8, repeated: Slot, count: usize) -> Vec<Slot> {
     [vec![first], vec![repeated; count]].concat()
 }
 
+/// A first slot with so many extras, and so many later data slots that each promise another.
+fn with_extras(extras: usize, later: usize) -> Vec<Slot> {
+    [chain(12, EXTRA_ON, extras - 1), vec![EXTRA_LAST], vec![DATA_ON; later]].concat()
+}
+
 #[test]
 fn begins_packet_means_that_some_continuation_is_one() {
-    let extra_on = letter(3);
-    let data_on = letter(4);
     let mut fronts = vec![Vec::new()];
-    for count in 13..=15 {
-        fronts.extend([chain(4, data_on, count), chain(8, extra_on, count), chain(12, extra_on, count)]);
+    for datas in 15..=DATA_LIMIT {
+        fronts.extend([chain(4, DATA_ON, datas - 1), with_extras(EXTRA_LIMIT, datas - 1)]);
+    }
+    for extras in 1..=EXTRA_LIMIT {
+        fronts.extend([chain(8, EXTRA_ON, extras), chain(12, EXTRA_ON, extras)]);
     }
     let continuations = runs(2);
     for front in fronts {
@@ -64,11 +74,16 @@ fn packet_at_front(run: &[Slot]) -> Option<Front> {
 }
 
 #[test]
-fn eighteen_slots_are_never_a_proper_beginning() {
+fn as_many_as_the_limit_allows_are_never_a_proper_beginning() {
     for flags in [4, 8, 12] {
         for repeated in [letter(3), letter(4), letter(7)] {
-            let slots = chain(flags, repeated, LIMIT - 1);
+            let slots = chain(flags, repeated, DATA_LIMIT - 1);
             assert_ne!(front(&slots), Front::Beginning, "{slots:02x?}");
         }
     }
+    for flags in [8, 12] {
+        assert_eq!(front(&chain(flags, EXTRA_ON, EXTRA_LIMIT)), Front::Misshapen);
+    }
+    let all = with_extras(EXTRA_LIMIT, DATA_LIMIT - 1);
+    assert_eq!((all.len(), front(&all)), (LIMIT, Front::Misshapen));
 }

@@ -1,16 +1,16 @@
--- `divider::fits` meets its contract: its test is the definition's.
-use borrow.Author.Needs.{needs}
-use mathlib.Core.Path.{refl}
+-- `divider::fits` meets its contract: its two tests are the definition's, in its order.
+use borrow.Author.Tests.{le-leb, lt-leb}
 use Rattle.netif.specs.Grammar.{within}
 use Rattle.netif.proofs.divider.fits.Statement.{statement}
 use Rattle.netif.proofs.divider.fits.Tie as tie
 
-add-result : tie.Need-add-result
-add-result c = search needs
-
 returns : tie.Need-returns
 unfolding within
-returns c = refl
+returns c = rw (le-leb (c .before .args .datas) 18 (c .if1 .taken))
+
+returns-2 : tie.Need-returns-2
+unfolding within
+returns-2 c = rw (lt-leb (c .before .args .datas) 18 (c .if1 .left))
 
 pub fits-spec : {M : Type 1} → statement M
-fits-spec = tie.close (tie.spec add-result returns)
+fits-spec = tie.close (tie.spec returns returns-2)
