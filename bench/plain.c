@@ -250,7 +250,7 @@ static uint32_t read_packet(uint8_t *ring, uint32_t first, uint32_t posted,
     return answer;
 }
 
-/* The cause that the sizes give, or 0. Cause 2 cannot be: a size has 16 bits. */
+/* The cause that the sizes give, or 0. */
 static uint32_t judge_sizes(uint32_t total, uint32_t later_sizes)
 {
     if (total < TOLLMEANDER_FRAME_MIN)

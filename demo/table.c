@@ -16,7 +16,7 @@ static const char *answer_name(uint32_t answer)
 static const char *cause_name(uint32_t cause)
 {
     static const char *const names[] = {
-        "none", "too short", "too long", "sizes above total", "page not granted",
+        "none", "too short", "reserved", "sizes above total", "page not granted",
         "part leaves its page", "bad gso"
     };
 

@@ -255,10 +255,11 @@ struct tollmeander_report {
 
 /*
  * Causes of SPOILED, in the order in which they are looked for. On receive only
- * GRANT occurs.
+ * GRANT occurs. LONG is reserved: it stood for a total above 65535, which a size
+ * of 16 bits cannot be. No call reports it, and its number is not used again.
  */
 #define TOLLMEANDER_CAUSE_SHORT         1u      /* total below 14 */
-#define TOLLMEANDER_CAUSE_LONG          2u      /* total above 65535 */
+#define TOLLMEANDER_CAUSE_LONG          2u      /* reserved */
 #define TOLLMEANDER_CAUSE_SIZES         3u      /* later sizes above total */
 #define TOLLMEANDER_CAUSE_GRANT         4u      /* reference is not fit */
 #define TOLLMEANDER_CAUSE_OFFSET        5u      /* part leaves its page */

@@ -1,7 +1,7 @@
 /*
  * Header and library agree: the report's size and order, the answers, causes and statuses, the
- * layout of ring page and grants, the values of the mark. Each answer and each cause that can
- * occur is produced by a call and compared with the header's constant.
+ * layout of ring page and grants, the values of the mark. Each answer, and each cause but the
+ * reserved one, is produced by a call and compared with the header's constant.
  */
 #include <stddef.h>
 #include <stdint.h>
@@ -313,7 +313,6 @@ static void check_cause(uint32_t total, uint32_t offset, uint32_t gref, uint32_t
     CHECK(frame[0] == 0xEE);
 }
 
-/* Cause 2 cannot occur: a size has 16 bits. */
 static void check_causes(void)
 {
     check_cause(TOLLMEANDER_FRAME_MIN - 1, 0, READ_GREF, 1460, TOLLMEANDER_CAUSE_SHORT, 0);
@@ -323,6 +322,43 @@ static void check_causes(void)
     check_cause(200, 0, GRANTS, 1460, TOLLMEANDER_CAUSE_GRANT, 2);
     check_cause(200, 3997, READ_GREF, 1460, TOLLMEANDER_CAUSE_OFFSET, 2);
     check_cause(200, 3996, READ_GREF, 0, TOLLMEANDER_CAUSE_GSO, 1);
+}
+
+/* Checks the report on the slots just posted: short if the total is, else as it is told. */
+static void check_sizes(uint32_t total, uint32_t slots, uint32_t cause)
+{
+    put32(ring + TOLLMEANDER_RING_RSP_EVENT, consumed + 1);
+    if (total < TOLLMEANDER_FRAME_MIN)
+        REPORTS(TAKE(), TOLLMEANDER_SPOILED, TOLLMEANDER_CAUSE_SHORT, 0, slots, 1, 0);
+    else if (cause != 0)
+        REPORTS(TAKE(), TOLLMEANDER_SPOILED, cause, 0, slots, 1, 0);
+    else
+        REPORTS(TAKE(), TOLLMEANDER_DONE, 0, 0, slots, 1, total, 0);
+}
+
+/*
+ * Every total that a slot can hold: with later slots that leave the first at most a page, alone,
+ * and with later sizes of one more than it. No call reports the reserved cause.
+ */
+static void check_totals(void)
+{
+    const uint32_t page = TOLLMEANDER_PAGE_SIZE;
+
+    open_queue(0);
+    for (uint32_t total = 0; total <= UINT16_MAX; total++) {
+        uint32_t later = total > 0 ? (total - 1) / page : 0;
+
+        post_data(READ_GREF, 0, later > 0 ? MORE_DATA : 0, 1, total);
+        for (uint32_t i = 1; i <= later; i++)
+            post_data(WRITE_GREF, 0, i < later ? MORE_DATA : 0, 2, page);
+        check_sizes(total, 1 + later, 0);
+        post_data(READ_GREF, 0, 0, 1, total);
+        check_sizes(total, 1, total > page ? TOLLMEANDER_CAUSE_OFFSET : 0);
+        post_data(READ_GREF, 0, MORE_DATA, 1, total);
+        post_data(WRITE_GREF, 0, MORE_DATA, 2, 1);
+        post_data(WRITE_GREF, 0, 0, 3, total);
+        check_sizes(total, 3, TOLLMEANDER_CAUSE_SIZES);
+    }
 }
 
 static void check_receive_done(void)
@@ -426,6 +462,7 @@ int main(void)
     check_refusals();
     check_halting();
     check_causes();
+    check_totals();
     check_receive_done();
     check_receive_refusals();
     check_packet_slots();

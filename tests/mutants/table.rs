@@ -98,6 +98,15 @@ pub const MUTANTS: &[Mutant] = &[
         &[edit("grammar.rs", "(1..=longest).find(", "Some(longest).filter(")],
     ),
     mutant("total_13_passes", &[edit("report.rs", "SMALLEST_FRAME: u64 = 14", "SMALLEST_FRAME: u64 = 13")]),
+    mutant(
+        "total_65535_refused",
+        &[edit(
+            "transmit.rs",
+            "total < SMALLEST_FRAME {",
+            "total < SMALLEST_FRAME || total >= LARGEST_FRAME {",
+        )],
+    ),
+    mutant("reserved_cause_for_sizes", &[edit("transmit.rs", "found.push((3, 0))", "found.push((2, 0))")]),
     mutant("empty_first_part_refused", &[edit("transmit.rs", "(packet) > total", "(packet) >= total")]),
     mutant(
         "later_sizes_added_in_16_bits",

@@ -52,6 +52,8 @@ rows =
     ∷ ("receive length 4096, id 9" ∣ requestOf (puts (request 9 ∷ []) 4096) 0 ⇒ 0x09 ∷ 0x00 ∷ 0x00 ∷ 0x00 ∷ 0x00 ∷ 0x00 ∷ 0x00 ∷ 0x10 ∷ [])
     ∷ ("receive length 4097: flags 4, status 4096" ∣ requestOf (puts (request 9 ∷ request 10 ∷ []) 4097) 0 ⇒ 0x09 ∷ 0x00 ∷ 0x00 ∷ 0x00 ∷ 0x04 ∷ 0x00 ∷ 0x00 ∷ 0x10 ∷ [])
     ∷ ("receive length 4097: flags 0, status 1" ∣ requestOf (puts (request 9 ∷ request 10 ∷ []) 4097) 1 ⇒ 0x0A ∷ 0x00 ∷ 0x00 ∷ 0x00 ∷ 0x00 ∷ 0x00 ∷ 0x01 ∷ 0x00 ∷ [])
+    -- the largest size of a slot: the part is too long for its page, and there is no cause 2
+    ∷ ("total 65535 in one slot: cause 5" ∣ answered (takes (one 65535)) ⇒ 7 ∷ 5 ∷ 0 ∷ [])
     -- the examples of its other sections
     ∷ ("grant word 0D: page 3, granted, not writable" ∣ pageOf (u32Bytes 0x0D) 0 ∷ flag (granted (u32Bytes 0x0D) 0) ∷ flag (writable (u32Bytes 0x0D) 0) ∷ [] ⇒ 3 ∷ 1 ∷ 0 ∷ [])
     -- the limit, as request 1 has it

@@ -31,9 +31,7 @@ test-good false c k h = refl
 pub sizes-good : (total later : ℕ) → judgeSizes total later ≡ Good → later ≤ total
 unfolding judgeSizes
 sizes-good total later h =
-    let a = orElse-good (test (ltb total 14) 1 0) _ h .1 in
-    let b = orElse-good (test (ltb 65535 total) 2 0) _ a .1 in
-    ltb-false total later (test-good _ 3 0 b)
+    ltb-false total later (test-good _ 3 0 (orElse-good (test (ltb total 14) 1 0) _ h .1))
 
 module _ (table window : List ℕ) where
   -- a good packet, rule by rule
@@ -74,7 +72,7 @@ module _ (table window : List ℕ) where
       length-append (partOf table window (firstOf p) (ownPart e p)) (laterParts table window (laterOf e p))
       ∙ rw (slot-good 0 (firstOf p) (ownPart e p) (g .1), later-good (laterOf e p) (suc e) (g .2)) (omega (arith, good-sizes e p h))
 
--- cause 2 holds of no packet whose slots are bytes
+-- the total of a packet whose slots are bytes is at most 65,535, a size being 16 bits
 pub total-small : (p : List Slot) → Bytes (firstOf p) → totalOf p ≤ 65535
 unfolding totalOf size
 total-small p h = omega (arith, u16-small (firstOf p) h 10)

@@ -1,4 +1,5 @@
 -- The laws of the definitions.
 pub mod Judge
+pub mod CauseTwo
 pub mod Joining
 pub mod Plans

@@ -26,9 +26,10 @@ parts e p = ownPart e p ∷ map size (laterOf e p)
 
 -- ---- the cause for 7
 
--- causes 1 to 3: of the total and the later sizes together
+-- causes 1 and 3: of the total and the later sizes together. Document 01's cause 2, a total above 65,535, is not asked: it holds of no
+-- packet whose slots are bytes (`proofs/CauseTwo.antt`)
 unfoldable pub judgeSizes : (total later : ℕ) → Verdict
-judgeSizes total later = test (ltb total 14) 1 0 orElse test (ltb 65535 total) 2 0 orElse test (ltb total later) 3 0
+judgeSizes total later = test (ltb total 14) 1 0 orElse test (ltb total later) 3 0
 
 -- cause 6: of the gso fields, only if there are extras
 abbrev pub judgeGso : (extras size type : ℕ) → Verdict

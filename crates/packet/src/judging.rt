@@ -11,15 +11,12 @@ use netif::DataSlot;
 use netif::Verdict;
 use netif::divider::Outline;
 
-// Causes 1 to 3, of the total and the later sizes together.
+// Causes 1 and 3, of the total and the later sizes together. The number 2 is reserved.
 pub fn judge_sizes(total: u16, later: u32) -> Verdict
     ensures { λ r. ⌜ r ≡ judgeSizes total later ⌝ }
 {
     if total < 14 {
         return Verdict::Bad { cause: 1, place: 0 };
-    }
-    if 65535 < total as u32 {
-        return Verdict::Bad { cause: 2, place: 0 };
     }
     if (total as u32) < later {
         return Verdict::Bad { cause: 3, place: 0 };

@@ -10,7 +10,7 @@ use reference::words::number;
 use std::collections::HashSet;
 use std::fmt;
 
-/// The answers and causes of each call. Cause 2 cannot occur, since a size has 16 bits.
+/// The answers and causes of each call. Cause 2 is reserved.
 const TRANSMIT_ANSWERS: &[u32] = &[0, 1, 2, 3, 4, 5, 6, 7, 8];
 const TRANSMIT_CAUSES: &[u32] = &[1, 3, 4, 5, 6];
 const RECEIVE_ANSWERS: &[u32] = &[0, 1, 2, 3, 7, 9, 10];

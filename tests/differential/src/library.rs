@@ -3,6 +3,7 @@
 use crate::case::{Answer, Case, State};
 use crate::guarded::{Guarded, Placed, Placement};
 use reference::calls::{Ring, Words};
+use reference::report::RESERVED_CAUSE;
 
 extern "C" {
     fn tollmeander_transmit_take(
@@ -63,6 +64,14 @@ pub unsafe fn call(ring: Ring, parameters: &Parameters) -> u32 {
     }
 }
 
+/// Fails for a report with the reserved cause.
+pub fn refuse_reserved(words: &Words) -> Result<(), String> {
+    if words[1] == RESERVED_CAUSE {
+        return Err(format!("the reserved cause {RESERVED_CAUSE} was reported"));
+    }
+    Ok(())
+}
+
 /// Pages of memory for each byte buffer: enough for the largest case.
 const PAGES: usize = 24;
 /// What the report's bytes hold before a call, which must write them all.
@@ -105,7 +114,7 @@ impl Library {
         }
     }
 
-    /// The library's answer to a case, or what it touched beside its buffers.
+    /// The library's answer to a case, or an error: it wrote beside a buffer, or reported the reserved cause.
     pub fn answer(&mut self, case: &Case, placement: Placement) -> Result<Answer, String> {
         let places = self.place(&case.before, placement);
         // SAFETY: each parameter has guarded memory of its own, in which it is placed with its length.
@@ -143,7 +152,8 @@ impl Library {
         };
         let word = |bytes: &[u8]| u32::from_ne_bytes(bytes.try_into().expect("four bytes"));
         let report = read(&mut self.report, places.report, "the report")?;
-        let words: Vec<u32> = report.chunks(4).map(word).collect();
+        let words: Words = std::array::from_fn(|k| word(&report[4 * k..4 * k + 4]));
+        refuse_reserved(&words)?;
         let after = State {
             consumed: word(&read(&mut self.consumed, places.consumed, "the counter")?),
             halted: word(&read(&mut self.halted, places.halted, "the mark")?),
@@ -152,7 +162,7 @@ impl Library {
             window: read(&mut self.window, places.window, "the window")?,
             frame: read(&mut self.frame, places.frame, "the frame")?,
         };
-        Ok(Answer { returned, words: words.try_into().expect("ten words"), after })
+        Ok(Answer { returned, words, after })
     }
 }
 

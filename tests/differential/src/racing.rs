@@ -3,7 +3,7 @@
 
 use crate::coverage::Answers;
 use crate::guarded::Guarded;
-use crate::library::{call, Parameters};
+use crate::library::{call, refuse_reserved, Parameters};
 use crate::random::Random;
 use reference::calls::Ring;
 use reference::grammar::{DATA_LIMIT, LIMIT};
@@ -106,7 +106,7 @@ impl Race {
         while start.elapsed() < time {
             self.consumed.store(consumed, Relaxed);
             self.post(random, consumed);
-            let answer = self.call(random, &mut consumed);
+            let answer = self.call(random, &mut consumed)?;
             self.calls.fetch_add(1, Relaxed);
             let count = answers.get_mut(answer as usize).ok_or_else(|| format!("answer {answer}"))?;
             *count += 1;
@@ -147,7 +147,7 @@ impl Race {
         self.store_u32(0, consumed.wrapping_add(RACED_SLOTS as u32));
     }
 
-    fn call(&self, random: &Random, consumed: &mut u32) -> u32 {
+    fn call(&self, random: &Random, consumed: &mut u32) -> Result<u32, String> {
         let (mut halted, mut report) = (0, [0; 10]);
         let which = random.below(2);
         let frame_bytes = match self.ring {
@@ -164,7 +164,9 @@ impl Race {
             report: &mut report,
         };
         // SAFETY: the lengths are those of the buffers, which are apart. The page changes meanwhile.
-        unsafe { call(self.ring, &parameters) }
+        let answer = unsafe { call(self.ring, &parameters) };
+        refuse_reserved(&report)?;
+        Ok(answer)
     }
 
     /// Rewrites fields of the slots that the host's call may be reading, until the race is over.

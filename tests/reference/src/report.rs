@@ -12,6 +12,9 @@ pub const NO_ROOM: u32 = 8;
 pub const BAD_LENGTH: u32 = 9;
 pub const NO_BUFFERS: u32 = 10;
 
+/// The cause for a total above 65,535, which a size of 16 bits cannot be. No call reports it.
+pub const RESERVED_CAUSE: u32 = 2;
+
 /// The lengths a frame may have.
 pub const SMALLEST_FRAME: u64 = 14;
 pub const LARGEST_FRAME: u64 = 65_535;

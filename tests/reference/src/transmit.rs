@@ -99,9 +99,6 @@ fn causes(packet: &Packet, lent: &Lent) -> Vec<Cause> {
     if total < SMALLEST_FRAME {
         found.push((1, 0));
     }
-    if total > LARGEST_FRAME {
-        found.push((2, 0));
-    }
     if later_sizes(packet) > total {
         found.push((3, 0));
     }

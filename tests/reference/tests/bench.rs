@@ -118,6 +118,7 @@ fn totals_and_sums() {
     assert_eq!(of(&[(100, MORE), (100, 0)]), [0, 0, 0]);
     assert_eq!(of(&[(100, MORE), (101, 0)]), [7, 3, 0]);
     assert_eq!(of(&[(13, MORE), (100, 0)]), [7, 1, 0]);
+    assert_eq!(of(&[(65_535, 0)]), [7, 5, 0]);
 }
 
 #[test]

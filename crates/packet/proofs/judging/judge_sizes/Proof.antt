@@ -14,11 +14,7 @@ returns-2 c = rw (le-ltb _ _ (c .before .if1 .left), lt-ltb _ _ (c .if2 .taken))
 
 returns-3 : tie.Need-returns-3
 unfolding judgeSizes
-returns-3 c = rw (le-ltb _ _ (c .before .before .if1 .left), le-ltb _ _ (c .before .if2 .left), lt-ltb _ _ (c .if3 .taken))
-
-returns-4 : tie.Need-returns-4
-unfolding judgeSizes
-returns-4 c = rw (le-ltb _ _ (c .before .before .if1 .left), le-ltb _ _ (c .before .if2 .left), le-ltb _ _ (c .if3 .left))
+returns-3 c = rw (le-ltb _ _ (c .before .if1 .left), le-ltb _ _ (c .if2 .left))
 
 pub judge-sizes-spec : {M : Type 1} → statement M
-judge-sizes-spec = tie.close (tie.spec returns returns-2 returns-3 returns-4)
+judge-sizes-spec = tie.close (tie.spec returns returns-2 returns-3)
