@@ -1,7 +1,8 @@
 /*
  * Header and library agree: the report's size and order, the answers, causes and statuses, the
  * layout of ring page and grants, the values of the mark. Each answer, and each cause but the
- * reserved one, is produced by a call and compared with the header's constant.
+ * reserved one, is produced by a call and compared with the header's constant. Parts and frames of
+ * every length are copied whole, and nothing behind them is written.
  */
 #include <stddef.h>
 #include <stdint.h>
@@ -73,6 +74,7 @@ IS(TOLLMEANDER_GRANT_PAGE_SHIFT, 2);
 
 enum {
     UNWRITTEN = 0x5A5A5A5A,
+    UNCOPIED = 0xEE,
     PAGES = 4,
     READ_GREF = 3,          /* page 3, to be read only */
     WRITE_GREF = 4,         /* page 1, writable */
@@ -136,7 +138,7 @@ static void open_queue(uint32_t counter)
     grant(OUTER_GREF, PAGES, TOLLMEANDER_GRANTED | TOLLMEANDER_GRANT_WRITABLE);
     for (size_t i = 0; i < sizeof window; i++)
         window[i] = (uint8_t)(i * 7 + i / TOLLMEANDER_PAGE_SIZE);
-    memset(frame, 0xEE, sizeof frame);
+    memset(frame, UNCOPIED, sizeof frame);
 }
 
 static uint8_t *transmit_slot(uint32_t n)
@@ -238,7 +240,7 @@ static void check_done(void)
     CHECK(get32(ring + TOLLMEANDER_RING_RSP_PROD) == 2);
     CHECK(memcmp(frame, window + 3 * TOLLMEANDER_PAGE_SIZE + 100, 1200) == 0);
     CHECK(memcmp(frame + 1200, window + 1 * TOLLMEANDER_PAGE_SIZE + 9, 300) == 0);
-    CHECK(frame[1500] == 0xEE);
+    CHECK(frame[1500] == UNCOPIED);
     CHECK(get32(transmit_slot(UINT32_MAX)) == (7 | (uint32_t)TOLLMEANDER_REPLY_OKAY << 16));
     CHECK(get32(transmit_slot(0)) == (uint32_t)TOLLMEANDER_REPLY_NULL << 16);
     CHECK(get32(transmit_slot(1)) == (8 | (uint32_t)TOLLMEANDER_REPLY_OKAY << 16));
@@ -310,7 +312,7 @@ static void check_cause(uint32_t total, uint32_t offset, uint32_t gref, uint32_t
     CHECK(get32(transmit_slot(10)) == (21 | (uint32_t)TOLLMEANDER_REPLY_ERROR << 16));
     CHECK(get32(transmit_slot(11)) == (uint32_t)TOLLMEANDER_REPLY_NULL << 16);
     CHECK(get32(transmit_slot(12)) == (22 | (uint32_t)TOLLMEANDER_REPLY_ERROR << 16));
-    CHECK(frame[0] == 0xEE);
+    CHECK(frame[0] == UNCOPIED);
 }
 
 static void check_causes(void)
@@ -358,6 +360,58 @@ static void check_totals(void)
         post_data(WRITE_GREF, 0, MORE_DATA, 2, 1);
         post_data(WRITE_GREF, 0, 0, 3, total);
         check_sizes(total, 3, TOLLMEANDER_CAUSE_SIZES);
+    }
+}
+
+/* Whether bytes are copied from a place to another, and the sixteen behind them are not written. */
+static int copied(const uint8_t *to, const uint8_t *from, uint32_t n)
+{
+    for (uint32_t i = n; i < n + 16; i++)
+        if (to[i] != UNCOPIED)
+            return 0;
+    return memcmp(to, from, n) == 0;
+}
+
+/* A part of every length, at the end of its page: behind another part, and alone. */
+static void check_parts(void)
+{
+    const uint32_t page = TOLLMEANDER_PAGE_SIZE, least = TOLLMEANDER_FRAME_MIN;
+
+    open_queue(0);
+    for (uint32_t n = 0; n <= page; n++) {
+        memset(frame, UNCOPIED, sizeof frame);
+        post_data(READ_GREF, 3, MORE_DATA, 1, least + n);
+        post_data(WRITE_GREF, page - n, 0, 2, n);
+        check_sizes(least + n, 2, 0);
+        CHECK(memcmp(frame, window + 3 * page + 3, least) == 0);
+        CHECK(copied(frame + least, window + 2 * page - n, n));
+        if (n < least)
+            continue;
+        memset(frame, UNCOPIED, sizeof frame);
+        post_data(WRITE_GREF, page - n, 0, 3, n);
+        check_sizes(n, 1, 0);
+        CHECK(copied(frame, window + 2 * page - n, n));
+    }
+}
+
+/* A frame of every length that one page or two take, into pages that lie side by side. */
+static void check_pieces(void)
+{
+    const uint32_t page = TOLLMEANDER_PAGE_SIZE;
+
+    open_queue(0);
+    for (uint32_t i = 0; i < 2 * page; i++)
+        frame[i] = (uint8_t)(i * 5 + i / page);
+    for (uint32_t n = TOLLMEANDER_FRAME_MIN; n <= 2 * page; n++) {
+        uint32_t slots = n > page ? 2 : 1;
+
+        memset(window, UNCOPIED, sizeof window);
+        put32(ring + TOLLMEANDER_RING_RSP_EVENT, consumed + 1);
+        post_request(1, WRITE_GREF);
+        if (slots > 1)
+            post_request(2, OTHER_GREF);
+        REPORTS(PUT(n), TOLLMEANDER_DONE, 0, 0, slots, 1, n, 0);
+        CHECK(copied(window + page, frame, n));
     }
 }
 
@@ -463,6 +517,8 @@ int main(void)
     check_halting();
     check_causes();
     check_totals();
+    check_parts();
+    check_pieces();
     check_receive_done();
     check_receive_refusals();
     check_packet_slots();

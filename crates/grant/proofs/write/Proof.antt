@@ -36,7 +36,7 @@ unfolding withPage
 returns c =
     let a = c .before .before .before .before .before .before .args in
     let n = 4096 * a .page + length (a .bytes .now) - 4096 * a .page in
-    ap (λ b. take (4096 * a .page) (a .window .now) ++ (b ++ drop n (drop (4096 * a .page) (a .window .now)))) (c .before .before .copy .ensures)
+    ap (λ b. take (4096 * a .page) (a .window .now) ++ (b ++ drop n (drop (4096 * a .page) (a .window .now)))) (c .before .before .copy .ensures .0)
     ∙ part-written (a .window .now) (a .bytes .now) (4096 * a .page) n (omega arith) (omega arith)
 
 pub write-spec : {M : Type 1} → statement M

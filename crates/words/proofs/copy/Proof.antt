@@ -1,99 +1,77 @@
--- `words::copy` meets its contract. After i turns of the first loop `held` starts with the first i bytes of src; after k turns of
--- the second dst starts with the first k bytes of `held`. Both are the same step, `copy-more`.
-use mathlib.Core.Path.{_≡_, refl, ap, _∙_}
-use mathlib.Core.List.{_++_}
-use Prim.Native.Nat.{_+_, _-_, _≤_}
+-- `words::copy` meets its contract. The passes copy the first 8 * (n / 8) bytes of src. Without a tail these are all; with one they reach
+-- the last eight, which were copied before. Fewer than eight bytes are copied one by one.
+use mathlib.Core.Path.{_≡_, ap, _∙_}
+use Prim.Native.Nat.{_-_, _*_, _/_}
 use native.Mathlib.Omega.{arith}
-use lib.ListN.{length, take, drop, set, getD, length-set}
+use lib.ListN.{length, take, drop, length-drop}
+use lib.Seq.{take-all}
 use borrow.Author.Needs.{needs}
-use Rattle.words.proofs.Word.{copy-more, held-more, copied-whole}
+use Rattle.words.specs.Word.{splice}
+use Rattle.words.proofs.Word.{splice-whole}
 use Rattle.words.proofs.copy.Statement.{statement}
 use Rattle.words.proofs.copy.Tie as tie
 
-abbrev Inv-loop : tie.InvT-loop
-Inv-loop src dst n held₀ i₀ held i = (i ≤ n) × (length held ≡ 4096) × (take i held ≡ take i src)
+copy-eights-requires : tie.Need-copy-eights-requires
+copy-eights-requires c κs = search needs
 
-abbrev μ-loop : tie.MeasureT-loop
-μ-loop src dst n held₀ i₀ held i = n - i
-
-abbrev Inv-loop2 : tie.InvT-loop2
-Inv-loop2 src dst₀ n held i k₀ dst k = (k ≤ n) × (length dst ≡ length dst₀) × (dst ≡ take k held ++ drop k dst₀)
-
-abbrev μ-loop2 : tie.MeasureT-loop2
-μ-loop2 src dst₀ n held i k₀ dst k = n - k
-
-loop-holds : tie.Need-loop-holds Inv-loop μ-loop Inv-loop2 μ-loop2
-loop-holds c = (omega arith, search needs, refl)
-
-shared-slice-read-held : tie.Need-shared-slice-read-held Inv-loop μ-loop Inv-loop2 μ-loop2
-shared-slice-read-held c = search needs
-
-array-write-held : tie.Need-array-write-held Inv-loop μ-loop Inv-loop2 μ-loop2
-array-write-held c = search needs
-
-add-i : tie.Need-add-i Inv-loop μ-loop Inv-loop2 μ-loop2
-add-i c = search needs
-
-loop-less : tie.Need-loop-less Inv-loop μ-loop Inv-loop2 μ-loop2
-loop-less c = search needs
-
-loop-again : tie.Need-loop-again Inv-loop μ-loop Inv-loop2 μ-loop2
-loop-again c =
-    let l = c .before .before .loop in
-    (omega arith, simp length-set (omega arith), held-more (l .held) (c .before .before .before .args .src .now) (l .i) (omega arith) (omega arith) (l .inv .2))
-
-loop2-holds : tie.Need-loop2-holds Inv-loop μ-loop Inv-loop2 μ-loop2
-loop2-holds c = (omega arith, refl, refl)
-
-array-read-dst : tie.Need-array-read-dst Inv-loop μ-loop Inv-loop2 μ-loop2
-array-read-dst c = search needs
-
-slice-write-dst : tie.Need-slice-write-dst Inv-loop μ-loop Inv-loop2 μ-loop2
-slice-write-dst c = search needs
-
-add-k : tie.Need-add-k Inv-loop μ-loop Inv-loop2 μ-loop2
-add-k c = search needs
-
-loop2-less : tie.Need-loop2-less Inv-loop μ-loop Inv-loop2 μ-loop2
-loop2-less c = search needs
-
-loop2-again : tie.Need-loop2-again Inv-loop μ-loop Inv-loop2 μ-loop2
-loop2-again c =
-    let l = c .before .loop2 in
-    let held = c .before .before .before .loop .held in
-    (omega arith, simp length-set (omega arith), ap (λ d. set d (l .k) (getD held (l .k) 0)) (l .inv .2) ∙ copy-more _ held (l .k) (omega arith) (omega arith))
-
-same-length : tie.Need-same-length Inv-loop μ-loop Inv-loop2 μ-loop2
+same-length : tie.Need-same-length
 same-length c = search needs
 
-returns : tie.Need-returns Inv-loop μ-loop Inv-loop2 μ-loop2
+returns : tie.Need-returns
 returns c =
-    let l = c .before .loop2 in
-    let a = c .before .before .before .before .args in
-    let first = c .before .before .before .loop in
-    let e : l .k ≡ length (a .src .now) = omega arith in
-    let same : first .i ≡ l .k = omega arith in
-    l .inv .2 ∙ copied-whole (a .dst .now) (first .held) (a .src .now) (l .k) e (rw same at (first .inv .2))
+    let a = c .before .before .before .before .before .before .before .args in
+    let passed = c .before .before .copy-eights .ensures in
+    (passed .0 ∙ ap (splice (a .dst .now) 0) (take-all (8 * (length (a .src .now) / 8)) (a .src .now) (omega arith)), passed .1)
+
+copy-short-requires : tie.Need-copy-short-requires
+copy-short-requires c κs = search needs
+
+same-length-2 : tie.Need-same-length-2
+same-length-2 c = search needs
+
+returns-2 : tie.Need-returns-2
+returns-2 c = search needs
+
+eight-at-requires : tie.Need-eight-at-requires
+eight-at-requires c κs = search needs
+
+put-eight-requires : tie.Need-put-eight-requires
+put-eight-requires c κs = search needs
+
+copy-eights-requires-2 : tie.Need-copy-eights-requires-2
+copy-eights-requires-2 c κs = search needs
+
+same-length-3 : tie.Need-same-length-3
+same-length-3 c = search needs
+
+returns-3 : tie.Need-returns-3
+returns-3 c =
+    let a = c .before .before .before .before .before .before .before .before .before .before .before .before .before .args in
+    let src = a .src .now in
+    let e = length src - 8 in
+    let read = c .before .before .before .before .before .before .before .eight-at .ensures in
+    let stored = c .before .before .before .before .before .before .put-eight in
+    let passed = c .before .before .copy-eights2 .ensures in
+    let last : stored .last .0 ≡ splice (a .dst .now) e (drop e src)
+    = stored .ensures ∙ ap (splice (a .dst .now) e) (read ∙ take-all 8 (drop e src) (simp length-drop (omega arith))) in (
+      passed .0
+          ∙ ap (λ d. splice d 0 (take (8 * (length src / 8)) src)) last
+          ∙ splice-whole (a .dst .now) src e (8 * (length src / 8)) (omega arith) (omega arith) (omega arith),
+      passed .1,
+    )
 
 pub copy-spec : {M : Type 1} → statement M
 copy-spec =
     tie.close
     (tie.spec
-    Inv-loop
-    μ-loop
-    Inv-loop2
-    μ-loop2
-    loop-holds
-    shared-slice-read-held
-    array-write-held
-    add-i
-    loop-less
-    loop-again
-    loop2-holds
-    array-read-dst
-    slice-write-dst
-    add-k
-    loop2-less
-    loop2-again
+    copy-eights-requires
     same-length
-    returns)
+    returns
+    copy-short-requires
+    same-length-2
+    returns-2
+    eight-at-requires
+    put-eight-requires
+    copy-eights-requires-2
+    same-length-3
+    returns-3)

@@ -44,7 +44,7 @@ returns c =
     let part = pagePart (a .window .now) (a .page) (a .offset) (a .size) in
     let n = a .at + a .size - a .at in
     let e = c .before .before .before .before .part .ensures in
-    ap (λ b. take (a .at) (a .frame .now) ++ (b ++ drop n (drop (a .at) (a .frame .now)))) (c .before .before .copy .ensures ∙ ap (splice (take n (drop (a .at) (a .frame .now))) 0) e)
+    ap (λ b. take (a .at) (a .frame .now) ++ (b ++ drop n (drop (a .at) (a .frame .now)))) (c .before .before .copy .ensures .0 ∙ ap (splice (take n (drop (a .at) (a .frame .now))) 0) e)
     ∙ part-written (a .frame .now) part (a .at) n (omega (arith, part-size (a .window .now) (a .page) (a .offset) (a .size) (p .0) (p .1))) (omega arith)
 
 pub copy-part-spec : {M : Type 1} → statement M
