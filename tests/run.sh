@@ -39,9 +39,21 @@ replay() {
     program reference -- replay ../crates/replay/data | cmp - ../crates/replay/stdout
 }
 
+# The ring pages that the program `compare` reads are the stored ones, and no other; the second program's lines for their
+# runs and for the generated ones are the stored lines.
+divide() {
+    local page
+    for page in ../crates/replay/data/*/tx-ring.bin; do
+        cmp "$page" "../crates/compare/data/${page#../crates/replay/data/}" || return 1
+    done
+    (cd ../crates/compare/data && printf '%s\n' */tx-ring.bin) | cmp - ../crates/compare/args &&
+        program reference -- divide ../crates/compare/data | cmp - ../crates/compare/stdout
+}
+
 check build cargo build -q --release --offline --all-targets
 check reference cargo test -q --release --offline -p reference
 check replay replay
+check divide divide
 check differential program differential -- run --seed 1 --cases 200000
 check racing program differential -- racing --seconds 6
 check mutants ./mutants.sh "$TOLLMEANDER_LIB"

@@ -32,9 +32,9 @@ join-append (p ∷ ps) qs = ap (p ++_) (join-append ps qs) ∙ sym (append-assoc
 
 -- ---- the ends
 
-nothing-begins : Begins []
-unfolding Begins BeginsProperly divide
-nothing-begins = let b = divide-begins [] refl in (b .0, b .2)
+divide-nil : (l : List Slot) → l ≡ [] → divide l ≡ beginning
+unfolding divide
+divide-nil l h = ap divide h
 
 begins-of : (l : List Slot) → divide l ≡ beginning → Begins l
 unfolding Begins BeginsProperly
@@ -45,7 +45,7 @@ ending-empty t = record {
   none = refl;
   waiting = (λ h. absurd (omega arith), λ h. absurd (h .0 refl));
   empty = (λ h. refl, λ h. refl);
-  halted = (λ h. absurd (⊎-elim (λ k. omega arith) (λ k. omega arith) h), λ h. absurd (h nothing-begins));
+  halted = (λ h. absurd (⊎-elim (λ k. omega arith) (λ k. omega arith) h), λ h. absurd (h (begins-of [] (divide-nil [] refl))));
 }
 
 ending-beginning : (t : ℕ) (l : List Slot) → l ≢ [] → divide l ≡ beginning → Ending 6 t t l
@@ -71,10 +71,6 @@ ending-misshapen a t l h w = record {
 -- no packet stands at the front: the division is the list itself
 alone : (l : List Slot) → ((d e : ℕ) → divide l ≡ whole d e → ⊥) → (packetsOf l ≡ []) × (restOf l ≡ l)
 alone l h = division-unique (packetsOf l) [] (division l) (division-none l (none-found l h))
-
-divide-nil : (l : List Slot) → l ≡ [] → divide l ≡ beginning
-unfolding divide
-divide-nil l h = ap divide h
 
 not-whole : (l : List Slot) (k : Cut) → ((d e : ℕ) → k ≡ whole d e → ⊥) → divide l ≡ k → (d e : ℕ) → divide l ≡ whole d e → ⊥
 not-whole l k f h d e g = f d e (sym h ∙ g)

@@ -23,10 +23,14 @@ within-extras d e w = leb-true e 4 (and-both (leb d 18) (leb e 4) w .1)
 pub within-bound : (d e : ℕ) → within d e ≡ true → d + e ≤ mostSlots
 within-bound d e w = omega (arith, within-datas d e w, within-extras d e w)
 
+-- every number up to both is within the limit
+pub within-most : (d e : ℕ) → d ≤ 18 → e ≤ 4 → within d e ≡ true
+unfolding within
+within-most d e p q = rw (le-leb d 18 p, le-leb e 4 q)
+
 -- fewer slots are within the limit too
 pub within-down : (d e d′ e′ : ℕ) → within d e ≡ true → d′ ≤ d → e′ ≤ e → within d′ e′ ≡ true
-unfolding within
-within-down d e d′ e′ w p q = rw (le-leb d′ 18 (omega (arith, within-datas d e w)), le-leb e′ 4 (omega (arith, within-extras d e w)))
+within-down d e d′ e′ w p q = within-most d′ e′ (omega (arith, within-datas d e w)) (omega (arith, within-extras d e w))
 
 -- one data slot is
 pub within-one : within 1 0 ≡ true

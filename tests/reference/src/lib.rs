@@ -10,6 +10,7 @@
 
 pub mod calls;
 pub mod captures;
+pub mod divide;
 pub mod examples;
 pub mod grammar;
 pub mod grants;
@@ -17,6 +18,7 @@ pub mod receive;
 pub mod replay;
 pub mod report;
 pub mod ring;
+pub mod runs;
 pub mod slots;
 pub mod transmit;
 pub mod words;

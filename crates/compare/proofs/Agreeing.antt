@@ -1,0 +1,39 @@
+-- Where both readers agree: on nothing, on one run by what the library promises, and on comparisons put together.
+use mathlib.Core.Path.{_≡_, refl, sym, ap, _∙_}
+use mathlib.Core.List.{List}
+use Prim.Native.Nat.{ℕ}
+use borrow.Author.Tests.{eq-eqb}
+use Rattle.division.specs.Compare.{countOf, comparedOf}
+use Rattle.division.specs.declared.Compared.{Compared}
+use Rattle.compare.specs.Answer.{endNumber}
+use Rattle.compare.specs.Tally.{sameOf, Nothing, Together, Counted, Agreeing}
+use Rattle.compare.specs.declared.tally.Tally.{Tally}
+
+pub nothing-agrees : {r : Tally} → Nothing r → Agreeing r
+nothing-agrees n = record {
+  cuts = n .fast ∙ sym (n .slow);
+  agreed = n .agreed ∙ sym (n .slow);
+  alike = n .alike ∙ sym (n .runs);
+}
+
+pub together-agrees : {a b r : Tally} → Agreeing a → Agreeing b → Together a b r → Agreeing r
+together-agrees a b t = record {
+  cuts = t .fast ∙ rw (a .cuts, b .cuts) (sym (t .slow));
+  agreed = t .agreed ∙ rw (a .agreed, b .agreed) (sym (t .slow));
+  alike = t .alike ∙ rw (a .alike, b .alike) (sym (t .runs));
+}
+
+-- a number is the same as itself
+same-self : (a : ℕ) → sameOf a a ≡ 1
+same-self a = rw (eq-eqb a a refl)
+
+pub counted-agrees : (bytes : List ℕ) (slots : ℕ) (compared : Compared) {r : Tally} → compared ≡ comparedOf bytes → Counted slots compared r → Agreeing r
+unfolding comparedOf
+counted-agrees bytes slots compared e c =
+    let fast = ap (λ (x : Compared). x .fast) e ∙ sym (ap (λ (x : Compared). x .slow) e) in
+    let agreed = ap (λ (x : Compared). x .agreed) e ∙ sym (ap (λ (x : Compared). countOf (x .slow)) e) in
+    record {
+      cuts = c .fast ∙ ap countOf fast ∙ sym (c .slow);
+      agreed = c .agreed ∙ agreed ∙ sym (c .slow);
+      alike = c .alike ∙ ap (λ x. sameOf (endNumber (compared .slow)) (endNumber x)) fast ∙ same-self (endNumber (compared .slow)) ∙ sym (c .runs);
+    }

@@ -1,0 +1,52 @@
+-- `stored::compare_page` meets its contract: at most 256 slots are taken, so that they fit the run.
+use native.Mathlib.Omega.{arith}
+use borrow.Author.Needs.{needs}
+use Rattle.io.proofs.Counting.{front}
+use Rattle.compare.proofs.Agreeing.{nothing-agrees}
+use Rattle.compare.proofs.stored.compare_page.Statement.{statement}
+use Rattle.compare.proofs.stored.compare_page.Tie as tie
+
+counter-requires : tie.Need-counter-requires
+counter-requires c κs = search needs
+
+posted-requires : tie.Need-posted-requires
+posted-requires c κs = search needs
+
+slice-aggregate-refused : tie.Need-slice-aggregate-refused
+slice-aggregate-refused c = search needs
+
+refused-requires : tie.Need-refused-requires
+refused-requires c κs = search needs
+
+none-requires : tie.Need-none-requires
+none-requires c κs = search needs
+
+returns : tie.Need-returns
+returns c = nothing-agrees (c .none .ensures)
+
+slice-aggregate-take : tie.Need-slice-aggregate-take
+slice-aggregate-take c = search needs
+
+take-requires : tie.Need-take-requires
+take-requires c κs = search needs
+
+cast-n : tie.Need-cast-n
+cast-n c = search needs
+
+mul-n : tie.Need-mul-n
+mul-n c = search needs
+
+array-share-prefix-run : tie.Need-array-share-prefix-run
+array-share-prefix-run c = search needs
+
+slice-aggregate-compare-run : tie.Need-slice-aggregate-compare-run
+slice-aggregate-compare-run c = front _ _ (omega arith)
+
+compare-run-requires : tie.Need-compare-run-requires
+compare-run-requires c κs = search needs
+
+returns-2 : tie.Need-returns-2
+returns-2 c = search needs
+
+pub compare-page-spec : {M : Type 1} → statement M
+compare-page-spec = tie.close (tie.spec counter-requires posted-requires slice-aggregate-refused refused-requires none-requires returns slice-aggregate-take take-requires cast-n mul-n array-share-prefix-run slice-aggregate-compare-run compare-run-requires returns-2)

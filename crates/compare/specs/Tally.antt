@@ -1,0 +1,65 @@
+-- What is counted of the comparisons.
+use mathlib.Core.Path.{_≡_}
+use mathlib.Core.Bool.{cond}
+use Prim.Native.Nat.{ℕ, _+_, _%_, _^_}
+use lib.Dec.{eqb}
+use Rattle.division.specs.Compare.{countOf}
+use Rattle.division.specs.declared.Compared.{Compared}
+use Rattle.compare.specs.Answer.{endNumber}
+use Rattle.compare.specs.declared.tally.Tally.{Tally}
+
+-- counts of 64 bits wrap
+abbrev pub sumOf : ℕ → ℕ → ℕ
+sumOf a b = (a + b) % 2 ^ 64
+
+-- 1 where two numbers are the same, and else 0
+abbrev pub sameOf : ℕ → ℕ → ℕ
+sameOf a b = cond (eqb a b) 1 0
+
+-- nothing counted
+pub record Nothing (r : Tally) : Type 0 where
+  pub runs : r .runs ≡ 0
+  pub slots : r .slots ≡ 0
+  pub slow : r .slow ≡ 0
+  pub fast : r .fast ≡ 0
+  pub agreed : r .agreed ≡ 0
+  pub alike : r .alike ≡ 0
+  pub empty : r .empty ≡ 0
+  pub waiting : r .waiting ≡ 0
+  pub misshapen : r .misshapen ≡ 0
+  pub uneven : r .uneven ≡ 0
+  pub tooLong : r .«too_long» ≡ 0
+
+-- some comparisons and others, together
+pub record Together (a b r : Tally) : Type 0 where
+  pub runs : r .runs ≡ sumOf (a .runs) (b .runs)
+  pub slots : r .slots ≡ sumOf (a .slots) (b .slots)
+  pub slow : r .slow ≡ sumOf (a .slow) (b .slow)
+  pub fast : r .fast ≡ sumOf (a .fast) (b .fast)
+  pub agreed : r .agreed ≡ sumOf (a .agreed) (b .agreed)
+  pub alike : r .alike ≡ sumOf (a .alike) (b .alike)
+  pub empty : r .empty ≡ sumOf (a .empty) (b .empty)
+  pub waiting : r .waiting ≡ sumOf (a .waiting) (b .waiting)
+  pub misshapen : r .misshapen ≡ sumOf (a .misshapen) (b .misshapen)
+  pub uneven : r .uneven ≡ sumOf (a .uneven) (b .uneven)
+  pub tooLong : r .«too_long» ≡ sumOf (a .«too_long») (b .«too_long»)
+
+-- one comparison; how it ended is the slow reader's word
+pub record Counted (slots : ℕ) (compared : Compared) (r : Tally) : Type 0 where
+  pub runs : r .runs ≡ 1
+  pub whole : r .slots ≡ slots
+  pub slow : r .slow ≡ countOf (compared .slow)
+  pub fast : r .fast ≡ countOf (compared .fast)
+  pub agreed : r .agreed ≡ compared .agreed
+  pub alike : r .alike ≡ sameOf (endNumber (compared .slow)) (endNumber (compared .fast))
+  pub empty : r .empty ≡ sameOf (endNumber (compared .slow)) 0
+  pub waiting : r .waiting ≡ sameOf (endNumber (compared .slow)) 1
+  pub misshapen : r .misshapen ≡ sameOf (endNumber (compared .slow)) 2
+  pub uneven : r .uneven ≡ sameOf (endNumber (compared .slow)) 3
+  pub tooLong : r .«too_long» ≡ sameOf (endNumber (compared .slow)) 4
+
+-- both readers agreed throughout: as many cuts by each, all of them agreed, and every run ended alike
+pub record Agreeing (r : Tally) : Type 0 where
+  pub cuts : r .fast ≡ r .slow
+  pub agreed : r .agreed ≡ r .slow
+  pub alike : r .alike ≡ r .runs

@@ -1,0 +1,63 @@
+// The comparison on generated runs, by the settings of the generator.
+ghost use Rattle.compare.specs.Tally.{Agreeing};
+use crate::line;
+use crate::made;
+use crate::made::Setting;
+use crate::tally;
+use crate::tally::Tally;
+
+// The runs of a setting.
+const RUNS: u32 = 512;
+
+// The comparison on the run of a number.
+fn run(number: u32, setting: Setting) -> Tally
+    ensures { λ r. ⌜ Agreeing r ⌝ }
+{
+    let mut room = [0u8; 3084];
+    let n = made::make(number, setting, &mut room);
+    let run = &room[..n];
+    tally::of(n / 12, division::compare(run))
+}
+
+// The comparison on all runs of a setting, which are numbered from a first number on.
+fn runs(first: u32, setting: Setting) -> Tally
+    ensures { λ r. ⌜ Agreeing r ⌝ }
+{
+    let mut all = tally::none();
+    let mut k: u32 = 0;
+    while k < RUNS {
+        all = tally::plus(all, run(std::num::wrapping_add_u32(first, k), setting));
+        k += 1;
+    }
+    all
+}
+
+// The comparison on a setting's runs and its line, added to what was counted before.
+fn add(before: Tally, name: &[u8], first: u32, later: u8, extras: u8, flaws: u32) -> Tally
+    requires { ⌜ Agreeing before ⌝ }
+    ensures { λ r. ⌜ Agreeing r ⌝ }
+{
+    let found = runs(
+        first,
+        Setting {
+            later,
+            extras,
+            flaws,
+        },
+    );
+    line::setting(name, found);
+    tally::plus(before, found)
+}
+
+// All settings, in FORMAT.md's order.
+pub fn all() -> Tally
+    ensures { λ r. ⌜ Agreeing r ⌝ }
+{
+    let singles = add(tally::none(), b"singles", 0, 0, 0, 0);
+    let extras = add(singles, b"extras", 512, 0, 4, 0);
+    let data = add(extras, b"data", 1024, 17, 0, 0);
+    let both = add(data, b"both", 1536, 17, 4, 0);
+    let over = add(both, b"over", 2048, 18, 5, 0);
+    let flawed = add(over, b"flawed", 2560, 17, 4, 4);
+    add(flawed, b"free", 3072, 17, 4, 256)
+}

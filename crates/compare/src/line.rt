@@ -1,0 +1,77 @@
+// The printed lines, written field by field.
+use crate::answer;
+use crate::tally::Tally;
+use division::Compared;
+use libc::STDOUT_FILENO;
+
+// Bytes as they are.
+fn text(bytes: &[u8]) {
+    io::write_all(STDOUT_FILENO, bytes);
+}
+
+// A label and a number.
+fn number(label: &[u8], n: usize) {
+    text(label);
+    io::print_decimal(STDOUT_FILENO, n as u64);
+}
+
+// The name of an answer's end.
+fn end(n: u32) {
+    match n {
+        0 => text(b" empty"),
+        1 => text(b" waiting"),
+        2 => text(b" misshapen"),
+        3 => text(b" uneven"),
+        _ => text(b" too-long"),
+    }
+}
+
+// The line of a stored page.
+pub fn page(name: &[u8], slots: usize, compared: Compared) {
+    let slow = compared.slow;
+    let fast = compared.fast;
+    text(name);
+    number(b" slots ", slots);
+    number(b" slow ", division::count_of(slow));
+    number(b" fast ", division::count_of(fast));
+    number(b" agreed ", compared.agreed);
+    text(b" ends");
+    end(answer::end(slow));
+    end(answer::end(fast));
+    text(b"\n");
+}
+
+// The line of a stored page that was not compared, and why.
+pub fn refused(name: &[u8], why: &[u8]) {
+    text(name);
+    text(why);
+}
+
+// The fields that a setting's line and the last line share.
+fn cuts(all: Tally) {
+    number(b" runs ", all.runs);
+    number(b" slots ", all.slots);
+    number(b" slow ", all.slow);
+    number(b" fast ", all.fast);
+    number(b" agreed ", all.agreed);
+    number(b" alike ", all.alike);
+}
+
+// The line of a setting of the generator.
+pub fn setting(name: &[u8], all: Tally) {
+    text(name);
+    cuts(all);
+    number(b" empty ", all.empty);
+    number(b" waiting ", all.waiting);
+    number(b" misshapen ", all.misshapen);
+    number(b" uneven ", all.uneven);
+    number(b" too-long ", all.too_long);
+    text(b"\n");
+}
+
+// The last line: all runs, stored and generated.
+pub fn total(all: Tally) {
+    text(b"total");
+    cuts(all);
+    text(b"\n");
+}

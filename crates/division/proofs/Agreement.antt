@@ -1,0 +1,76 @@
+-- This is the agreement: whatever the grammar's contract allows is the fast reader's answer, so both readers answer the same. A run
+-- has one division, and the rest of it ends in one way.
+use mathlib.Core.Path.{_≡_, refl, sym, ap, _∙_}
+use mathlib.Core.List.{List, [], _∷_, map}
+use Prim.Native.Nat.{ℕ, zero, suc, _/_, _≤_}
+use native.Mathlib.Omega.{arith}
+use lib.ListN.{length, getD, length-append}
+use borrow.Author.Tests.{eq-eqb, ne-eqb, le-leb, lt-leb}
+use Rattle.words.specs.Word.{splice}
+use Rattle.netif.specs.Slot.{Slot, slotWidth}
+use Rattle.netif.specs.Grammar.{Begins, BeginsProperly, NoneAtFront, AllPackets, joinAll}
+use Rattle.netif.proofs.Grammar.{packet-some, nothing-begins, beginning-iff, misshapen-iff, division-only}
+use Rattle.division.specs.Answer.{mostRun, EndsAs, CutAs, DividedAs}
+use Rattle.division.specs.Fast.{endingOf, cutsOf, lengthsOf, dividedOf, tableOf}
+use Rattle.division.specs.Compare.{countOf, agreeing}
+use Rattle.division.specs.declared.Ending.{Ending}
+use Rattle.division.specs.declared.Ending.the-variants as ending
+use Rattle.division.specs.declared.Cuts.{Cuts}
+use Rattle.division.specs.declared.Divided.{Divided}
+use Rattle.division.specs.declared.Divided.the-variants as divided
+use Rattle.division.proofs.Runs.{slots-length}
+
+-- a rest at whose front no packet stands ends in one way
+ending-only : (rest : List Slot) (e : Ending) → NoneAtFront rest → EndsAs rest e → e ≡ endingOf rest
+unfolding Begins BeginsProperly
+ending-only [] ending.Empty n h = refl
+ending-only [] ending.Waiting n h = absurd (h .0 refl)
+ending-only [] ending.Misshapen n h = absurd (h (nothing-begins .0, nothing-begins .2))
+ending-only (s ∷ l) ending.Empty n h = absurd (let z : _≡_ {A = ℕ} 0 1 = cc in omega arith)
+ending-only (s ∷ l) ending.Waiting n h = rw (beginning-iff (s ∷ l) .1 (h .1))
+ending-only (s ∷ l) ending.Misshapen n h = rw (misshapen-iff (s ∷ l) .1 (h, n))
+
+-- a run's division is the one that the fast reader gives
+pub cut-only : (run : List Slot) (before after : List ℕ) (r : Cuts) → CutAs run before after r → (r ≡ cutsOf run) × (after ≡ splice before 0 (lengthsOf run))
+unfolding cutsOf lengthsOf
+cut-only run before after r a =
+    let (packets, rest) = division-only run (a .packets) (a .rest) (a .division) in
+    let count = a .count ∙ ap length packets in
+    let ending = ending-only (a .rest) (r .ending) (a .division .ends) (a .ending) ∙ ap endingOf rest in
+    ((λ i. record { count = count i; ending = ending i }), a .table ∙ ap (λ ps. splice before 0 (map length ps)) packets)
+
+-- and so is the answer for bytes lent as a run
+pub divided-only : (bytes before after : List ℕ) (r : Divided) → DividedAs bytes before after r → (r ≡ dividedOf bytes) × (after ≡ tableOf bytes before)
+unfolding dividedOf tableOf
+divided-only bytes before after divided.Uneven h = rw (ne-eqb _ _ (h .0)) (refl, h .1)
+divided-only bytes before after divided.TooLong h = rw (eq-eqb _ _ (h .0), lt-leb _ _ (h .1)) (refl, h .2)
+divided-only bytes before after (divided.Cut r) h =
+    let (answer, table) = cut-only _ before after r (h .2) in
+    rw (eq-eqb _ _ (h .0), le-leb _ _ (h .1)) (ap divided.Cut answer, table)
+
+-- so both readers answer the same on every run, and leave the same table where they were lent the same
+pub readers-agree : (bytes before after after′ : List ℕ) (slow fast : Divided)
+    → DividedAs bytes before after slow → (fast ≡ dividedOf bytes) × (after′ ≡ tableOf bytes before)
+    → (slow ≡ fast) × (after ≡ after′)
+readers-agree bytes before after after′ slow fast h k =
+    let (answer, table) = divided-only bytes before after slow h in
+    (answer ∙ sym (k .0), table ∙ sym (k .1))
+
+-- ---- the comparison
+
+-- packets are no more than their slots
+few-packets : (ps : List (List Slot)) → AllPackets ps → length ps ≤ length (joinAll ps)
+few-packets [] h = omega arith
+few-packets (p ∷ ps) h = omega (arith, packet-some (h .0), few-packets ps (h .1), length-append p (joinAll ps))
+
+pub count-few : (bytes before after : List ℕ) (r : Divided) → DividedAs bytes before after r → countOf r ≤ mostRun
+count-few bytes before after divided.Uneven h = omega arith
+count-few bytes before after divided.TooLong h = omega arith
+count-few bytes before after (divided.Cut r) h =
+    let a = h .2 in
+    omega (arith, a .count, few-packets (a .packets) (a .division .each), ap length (a .division .joined), length-append (joinAll (a .packets)) (a .rest), slots-length bytes (length bytes / slotWidth) 0)
+
+-- a table agrees with itself at every place
+pub agreeing-all : (n : ℕ) (a b : List ℕ) → a ≡ b → agreeing n a b ≡ n
+agreeing-all zero a b e = refl
+agreeing-all (suc n) a b e = rw (agreeing-all n a b e, eq-eqb _ _ (ap (λ l. getD l n 0) e)) (omega arith)

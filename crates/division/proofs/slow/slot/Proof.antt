@@ -1,0 +1,33 @@
+-- `slow::slot` meets its contract: the part's end minus its start is the slot's width.
+use mathlib.Core.Path.{_≡_}
+use Prim.Native.Nat.{_+_, _-_, _*_}
+use native.Mathlib.Omega.{arith}
+use borrow.Author.Needs.{needs}
+use Rattle.division.specs.Run.{slotIn}
+use Rattle.division.proofs.slow.slot.Statement.{statement}
+use Rattle.division.proofs.slow.slot.Tie as tie
+
+mul-a : tie.Need-mul-a
+mul-a c = search needs
+
+add-b : tie.Need-add-b
+add-b c = search needs
+
+sub-result : tie.Need-sub-result
+sub-result c = search needs
+
+part-result-start : tie.Need-part-result-start
+part-result-start c = search needs
+
+part-result-end : tie.Need-part-result-end
+part-result-end c = search needs
+
+returns : tie.Need-returns
+unfolding slotIn
+returns c =
+    let i = c .before .args .i in
+    let e : 12 * i + 12 - 12 * i ≡ 12 = omega arith in
+    rw e
+
+pub slot-spec : {M : Type 1} → statement M
+slot-spec = tie.close (tie.spec mul-a add-b sub-result part-result-start part-result-end returns)

@@ -1,0 +1,5 @@
+pub mod Run
+pub mod Shape
+pub mod Answer
+pub mod Fast
+pub mod Compare

@@ -1,0 +1,87 @@
+// A run of slots in memory, divided into its leading packets and a rest by two readers: `slow`, which asks the grammar length by
+// length, and `fast`, which is netif's divider. They share the decoding of slots and no other code.
+pub mod fast;
+pub mod slow;
+
+ghost use mathlib.Core.Path.{_≡_};
+ghost use Prim.Native.Nat.{_≤_};
+ghost use Rattle.division.specs.Compare.{countOf, agreeing, comparedOf};
+
+// What the rest of a run is: nothing, a proper beginning of a packet, or the beginning of none.
+pub enum Ending {
+    Empty,
+    Waiting,
+    Misshapen,
+}
+
+// What stands at the front of a run: a packet of so many slots, or none, as the rest ends.
+pub enum Step {
+    Packet(usize),
+    Stop(Ending),
+}
+
+// A division: how many packets were cut off, and what the rest is. How many slots each packet has stands in a table.
+pub struct Cuts {
+    pub count: usize,
+    pub ending: Ending,
+}
+
+// The answer for bytes lent as a run.
+pub enum Divided {
+    // The bytes are no whole number of slots.
+    Uneven,
+    // There are more than 256 slots.
+    TooLong,
+    // The run's division.
+    Cut(Cuts),
+}
+
+// What both readers answered, and at how many of the slow one's cuts the fast one cut the same.
+pub struct Compared {
+    pub slow: Divided,
+    pub fast: Divided,
+    pub agreed: usize,
+}
+
+// The number of packets that an answer has.
+pub fn count_of(answer: Divided) -> usize
+    ensures { λ r. ⌜ r ≡ countOf answer ⌝ }
+{
+    match answer {
+        Divided::Cut(cuts) => cuts.count,
+        Divided::Uneven => 0,
+        Divided::TooLong => 0,
+    }
+}
+
+// At how many of the first n places two tables are the same.
+fn agreed(n: usize, a: &[usize; 256], b: &[usize; 256]) -> usize
+    requires { ⌜ n ≤ 256 ⌝ }
+    ensures { λ r. ⌜ r ≡ agreeing n (now (a .entry)) (now (b .entry)) ⌝ }
+{
+    let mut same: usize = 0;
+    let mut i: usize = 0;
+    while i < n {
+        if a[i] == b[i] {
+            same += 1;
+        }
+        i += 1;
+    }
+    same
+}
+
+// Both readers on one run, 12 bytes a slot: they answer the same, and all cuts agree. The promise is of these values; that both
+// readers were run is for the reader of the code.
+pub fn compare(run: &[u8]) -> Compared
+    ensures { λ r. ⌜ r ≡ comparedOf (now (run .entry)) ⌝ }
+{
+    let mut slow_cuts = [0usize; 256];
+    let mut fast_cuts = [0usize; 256];
+    let slow = slow::divide(run, &mut slow_cuts);
+    let fast = fast::divide(run, &mut fast_cuts);
+    Compared {
+        slow,
+        fast,
+        agreed: agreed(count_of(slow), &slow_cuts, &fast_cuts),
+    }
+}
