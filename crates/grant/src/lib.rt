@@ -23,24 +23,23 @@ pub enum Source {
     Outside,
 }
 
-// The page that reference g names, if the grant is fit for transmit.
+// The page that reference g names, if the grant is fit for transmit. It is held against the numbers of words and of pages, which a
+// loop over slots computes once.
 pub fn fit_to_read(grants: &[u8], window: &[u8], gref: u32) -> Page
     ensures { λ r. ⌜ r ≡ readPage (now (grants .entry)) (now (window .entry)) gref ⌝ }
 {
-    let at = WORD * (gref as usize);
-    if grants.len() < at + WORD {
+    if grants.len() / WORD <= gref as usize {
         return Page::Unfit;
     }
-    let word = words::u32_at(grants, at);
+    let word = words::u32_at(grants, WORD * (gref as usize));
     let page = word >> 2;
-    if window.len() < PAGE * (page as usize) + PAGE {
+    if window.len() / PAGE <= page as usize {
         return Page::Unfit;
     }
-    if words::bit_of(word, 0) {
-        Page::Fit(page)
-    } else {
-        Page::Unfit
+    if !words::bit_of(word, 0) {
+        return Page::Unfit;
     }
+    Page::Fit(page)
 }
 
 // Whether the word of reference g has its writable bit.
@@ -58,11 +57,10 @@ pub fn fit_to_write(grants: &[u8], window: &[u8], gref: u32) -> Page
     match fit_to_read(grants, window, gref) {
         Page::Unfit => Page::Unfit,
         Page::Fit(page) => {
-            if is_writable(grants, gref) {
-                Page::Fit(page)
-            } else {
-                Page::Unfit
+            if !is_writable(grants, gref) {
+                return Page::Unfit;
             }
+            Page::Fit(page)
         }
     }
 }

@@ -8,7 +8,7 @@ use lib.ListN.{length, take, getD, length-append, length-take, length-drop}
 use lib.Seq.{take-suc, length-take-le}
 use Rattle.grant.specs.Grant.{pagePart}
 use Rattle.words.specs.Word.{splice}
-use Rattle.words.proofs.Word.{splice-join}
+use Rattle.words.proofs.Word.{splice-join, splice-length}
 use Rattle.packet.specs.Plan.{joined, InWindow}
 
 pub part-size : (window : List ℕ) (p o s : ℕ) → 4096 * p + 4096 ≤ length window → o + s ≤ 4096 → length (pagePart window p o s) ≡ s
@@ -47,24 +47,38 @@ joined-grows window (suc i) (suc n) (p ∷ ps) (o ∷ os) [] h = omega arith
 joined-grows window (suc i) (suc n) (p ∷ ps) (o ∷ os) (s ∷ ss) h =
     omega (arith, joined-grows window i n ps os ss (omega arith), length-append (pagePart window p o s) (joined window (take i ps) (take i os) (take i ss)), length-append (pagePart window p o s) (joined window (take n ps) (take n os) (take n ss)))
 
--- the turn of the loop that copies part i behind the parts before it
+-- the first i parts stand joined at the front of the frame buffer, which else is as it was, and end at a position
+abbrev pub Standing : (window pages offsets sizes frame₀ : List ℕ) (i : ℕ) (frame : List ℕ) (at : ℕ) → Type 0
+Standing window pages offsets sizes frame₀ i frame at =
+    (at ≡ length (joined window (take i pages) (take i offsets) (take i sizes)))
+    × (frame ≡ splice frame₀ 0 (joined window (take i pages) (take i offsets) (take i sizes)))
+    × (length frame ≡ length frame₀)
+
+-- a step, which copies part i behind the parts before it
 module _ (window pages offsets sizes frame₀ : List ℕ) (count : ℕ) (p : count ≤ length pages) (o : count ≤ length offsets) (s : count ≤ length sizes)
     (inside : InWindow window pages offsets sizes count) (room : length (joined window (take count pages) (take count offsets) (take count sizes)) ≤ length frame₀)
     (i : ℕ) (k : i < count) where
-  pub next-length : length (joined window (take i pages) (take i offsets) (take i sizes)) + getD sizes i 0 ≡ length (joined window (take (i + 1) pages) (take (i + 1) offsets) (take (i + 1) sizes))
+  next-length : length (joined window (take i pages) (take i offsets) (take i sizes)) + getD sizes i 0 ≡ length (joined window (take (i + 1) pages) (take (i + 1) offsets) (take (i + 1) sizes))
   unfolding InWindow
   next-length =
       sym (ap length (joined-more window pages offsets sizes i (omega arith) (omega arith) (omega arith))
       ∙ length-append (joined window (take i pages) (take i offsets) (take i sizes)) (pagePart window (getD pages i 0) (getD offsets i 0) (getD sizes i 0))
       ∙ ap (length (joined window (take i pages) (take i offsets) (take i sizes)) +_) (part-size window (getD pages i 0) (getD offsets i 0) (getD sizes i 0) (inside i k .0) (inside i k .1)))
 
-  pub next-room : length (joined window (take i pages) (take i offsets) (take i sizes)) + getD sizes i 0 ≤ length frame₀
+  next-room : length (joined window (take i pages) (take i offsets) (take i sizes)) + getD sizes i 0 ≤ length frame₀
   next-room = omega (arith, next-length, joined-grows window (i + 1) count pages offsets sizes (omega arith))
 
-  pub next-frame : (frame : List ℕ) (at : ℕ) → at ≡ length (joined window (take i pages) (take i offsets) (take i sizes))
-      → frame ≡ splice frame₀ 0 (joined window (take i pages) (take i offsets) (take i sizes))
-      → splice frame at (pagePart window (getD pages i 0) (getD offsets i 0) (getD sizes i 0)) ≡ splice frame₀ 0 (joined window (take (i + 1) pages) (take (i + 1) offsets) (take (i + 1) sizes))
-  next-frame frame at e f =
-      ap (λ (x : List ℕ). splice x at (pagePart window (getD pages i 0) (getD offsets i 0) (getD sizes i 0))) f
-      ∙ splice-join frame₀ 0 (joined window (take i pages) (take i offsets) (take i sizes)) (pagePart window (getD pages i 0) (getD offsets i 0) (getD sizes i 0)) at (omega arith) (omega (arith, next-room))
-      ∙ ap (splice frame₀ 0) (sym (joined-more window pages offsets sizes i (omega arith) (omega arith) (omega arith)))
+  module _ (frame : List ℕ) (at : ℕ) (before : Standing window pages offsets sizes frame₀ i frame at) where
+    pub next-fits : at + getD sizes i 0 ≤ length frame
+    next-fits = omega (arith, before .0, before .2, next-room)
+
+    pub next-stands : (frame₁ : List ℕ) (at₁ : ℕ)
+        → frame₁ ≡ splice frame at (pagePart window (getD pages i 0) (getD offsets i 0) (getD sizes i 0)) → at₁ ≡ at + getD sizes i 0
+        → Standing window pages offsets sizes frame₀ (i + 1) frame₁ at₁
+    next-stands frame₁ at₁ f e =
+        let g : frame₁ ≡ splice frame₀ 0 (joined window (take (i + 1) pages) (take (i + 1) offsets) (take (i + 1) sizes))
+        = f
+        ∙ ap (λ (x : List ℕ). splice x at (pagePart window (getD pages i 0) (getD offsets i 0) (getD sizes i 0))) (before .1)
+        ∙ splice-join frame₀ 0 (joined window (take i pages) (take i offsets) (take i sizes)) (pagePart window (getD pages i 0) (getD offsets i 0) (getD sizes i 0)) at (omega (arith, before .0)) (omega (arith, before .0, next-room))
+        ∙ ap (splice frame₀ 0) (sym (joined-more window pages offsets sizes i (omega arith) (omega arith) (omega arith))) in
+        (omega (arith, before .0, next-length), g, ap length g ∙ splice-length frame₀ 0 _ (omega (arith, next-length, next-room)))

@@ -1,7 +1,7 @@
 // A packet's parts, copied from the window into the frame buffer as the tables say.
 ghost use mathlib.Core.Path.{_≡_};
-ghost use Prim.Native.Nat.{_+_, _*_, _≤_};
-ghost use lib.ListN.{length, take};
+ghost use Prim.Native.Nat.{_+_, _*_, _≤_, _<_};
+ghost use lib.ListN.{length, take, getD};
 ghost use Rattle.words.specs.Word.{splice};
 ghost use Rattle.grant.specs.Grant.{pagePart};
 ghost use Rattle.packet.specs.Plan.{joined, InWindow};
@@ -15,14 +15,35 @@ pub fn copy_part(window: &[u8], page: u32, offset: u16, size: u16, frame: &mut [
     words::copy(grant::part(window, page, offset, size), &mut frame[at..end]);
 }
 
-// A 16-bit number as a position.
-fn wide(x: u16) -> usize
-    ensures { λ r. ⌜ r ≡ x ⌝ }
+// Copies the part that a place of the tables names to its position in the frame buffer; the position behind it.
+fn place_part(
+    window: &[u8],
+    i: usize,
+    pages: &[u32; 18],
+    offsets: &[u16; 18],
+    sizes: &[u16; 18],
+    frame: &mut [u8],
+    at: usize,
+) -> usize
+    requires { ⌜
+        (i < 18)
+        × (i < length (now pages))
+        × (i < length (now offsets))
+        × (i < length (now sizes))
+        × (4096 * getD (now pages) i 0 + 4096 ≤ length (now window))
+        × (getD (now offsets) i 0 + getD (now sizes) i 0 ≤ 4096)
+        × (at + getD (now sizes) i 0 ≤ length (now frame)) ⌝ }
+    ensures { λ r. ⌜
+        (now (frame .exit) ≡ splice (now (frame .entry)) at
+        (pagePart (now (window .entry)) (getD (now (pages .entry)) i 0) (getD (now (offsets .entry)) i 0) (getD (now (sizes .entry)) i 0)))
+        × (r ≡ at + getD (now (sizes .entry)) i 0) ⌝ }
 {
-    x as usize
+    copy_part(window, pages[i], offsets[i], sizes[i], frame, at);
+    at + sizes[i] as usize
 }
 
-// Joins the parts that the first count places of the tables name at the front of the frame buffer.
+// Joins the parts that the first count places of the tables name at the front of the frame buffer. A turn copies two parts, as the
+// compiler does not unroll the loop by itself.
 pub fn gather(
     window: &[u8],
     count: usize,
@@ -45,10 +66,12 @@ pub fn gather(
 {
     let mut i: usize = 0;
     let mut at: usize = 0;
-    while i < count {
-        let size = sizes[i];
-        copy_part(window, pages[i], offsets[i], size, frame, at);
-        at += wide(size);
-        i += 1;
+    while i + 1 < count {
+        at = place_part(window, i, pages, offsets, sizes, frame, at);
+        at = place_part(window, i + 1, pages, offsets, sizes, frame, at);
+        i += 2;
+    }
+    if i < count {
+        place_part(window, i, pages, offsets, sizes, frame, at);
     }
 }

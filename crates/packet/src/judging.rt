@@ -84,8 +84,9 @@ fn judge_later(
         (now (pages .entry)) (now (offsets .entry)) (now (pages .exit)) (now (offsets .exit)) r ⌝ }
 {
     let mut i: u32 = 0;
+    let mut n = ring::ahead(first, extras + 1);
     while i < later {
-        let slot = DataSlot::at(ring, ring::ahead(first, extras + 1 + i));
+        let slot = DataSlot::at(ring, n);
         let at = (i + 1) as usize;
         match grant::lookup(grants, window, slot.gref, slot.offset, sizes[at]) {
             Source::Unfit => {
@@ -106,6 +107,7 @@ fn judge_later(
             }
         }
         i += 1;
+        n = ring::ahead(n, 1);
     }
     Verdict::Good
 }

@@ -111,22 +111,19 @@ fn copy_eights(src: &[u8], dst: &mut [u8]) -> usize
     copy_passes(&held, dst, passes)
 }
 
-// Copies all of src, fewer than eight bytes, to the front of dst one by one, through an own array as above.
+// Copies all of src, fewer than eight bytes, to the front of dst one by one. The loop has as many turns as there can be bytes,
+// so that the compiler unrolls it.
 fn copy_short(src: &[u8], dst: &mut [u8])
     requires { ⌜ (length (now src) ≤ length (now dst)) × (length (now src) < 8) ⌝ }
     ensures { λ _. ⌜ now (dst .exit) ≡ splice (now (dst .entry)) 0 (now (src .entry)) ⌝ }
 {
     let n = src.len();
-    let mut held = [0u8; 8];
     let mut i: usize = 0;
-    while i < n {
-        held[i] = src[i];
+    while i < 7 {
+        if i < n {
+            dst[i] = src[i];
+        }
         i += 1;
-    }
-    let mut k: usize = 0;
-    while k < n {
-        dst[k] = held[k];
-        k += 1;
     }
 }
 
@@ -138,13 +135,12 @@ pub fn copy(src: &[u8], dst: &mut [u8]) -> usize
         (now (dst .exit) ≡ splice (now (dst .entry)) 0 (now (src .entry))) × (r ≡ length (now (src .entry)) / 8) ⌝ }
 {
     let n = src.len();
-    if n % 8 == 0 {
-        return copy_eights(src, dst);
+    if n % 8 != 0 {
+        if n < 8 {
+            copy_short(src, dst);
+            return 0;
+        }
+        put_eight(dst, n - 8, eight_at(src, n - 8));
     }
-    if n < 8 {
-        copy_short(src, dst);
-        return 0;
-    }
-    put_eight(dst, n - 8, eight_at(src, n - 8));
     copy_eights(src, dst)
 }

@@ -1,68 +1,60 @@
--- `gathering::gather` meets its contract: after i turns the first i parts stand joined at the front of the frame buffer, and the next one
--- goes right behind them.
-use mathlib.Core.Path.{_≡_, refl, sym, ap, _∙_}
-use Prim.Native.Nat.{_-_, _^_, _≤_, _<_}
+-- `gathering::gather` meets its contract: where the loop stands at i, the first i parts stand joined at the front of the frame buffer. A
+-- turn is two steps of `Joining`, and the last of an odd number of parts is one more.
+use mathlib.Core.Path.{_≡_, refl, sym}
+use Prim.Native.Nat.{_+_, _-_, _≤_, _<_}
 use native.Mathlib.Omega.{arith}
-use lib.ListN.{length, take}
 use borrow.Author.Needs.{needs}
-use Rattle.words.specs.Word.{splice}
-use Rattle.words.proofs.Word.{splice-none, splice-length}
-use Rattle.packet.specs.Plan.{joined, InWindow}
-use Rattle.packet.proofs.Joining.{next-length, next-room, next-frame}
+use Rattle.words.proofs.Word.{splice-none}
+use Rattle.packet.specs.Plan.{InWindow}
+use Rattle.packet.proofs.Joining.{Standing, next-fits, next-stands}
 use Rattle.packet.proofs.gathering.gather.Statement.{statement}
 use Rattle.packet.proofs.gathering.gather.Tie as tie
 
 abbrev Inv-loop : tie.InvT-loop
-Inv-loop window count pages offsets sizes frame₀ i₀ at₀ frame i at =
-    (i ≤ count)
-    × (at ≡ length (joined window (take i pages) (take i offsets) (take i sizes)))
-    × (frame ≡ splice frame₀ 0 (joined window (take i pages) (take i offsets) (take i sizes)))
-    × (length frame ≡ length frame₀)
+Inv-loop window count pages offsets sizes frame₀ i₀ at₀ frame i at = (i ≤ count) × Standing window pages offsets sizes frame₀ i frame at
 
 abbrev μ-loop : tie.MeasureT-loop
 μ-loop window count pages offsets sizes frame₀ i₀ at₀ frame i at = count - i
 
 loop-holds : tie.Need-loop-holds Inv-loop μ-loop
-loop-holds c = (omega arith, refl, sym (splice-none _ 0), refl)
+loop-holds c = (omega arith, (refl, sym (splice-none _ 0), refl))
 
-mul-size : tie.Need-mul-size Inv-loop μ-loop
-mul-size c = search needs
+add-loop : tie.Need-add-loop Inv-loop μ-loop
+add-loop c = search needs
 
-element-copy-out-size : tie.Need-element-copy-out-size Inv-loop μ-loop
-element-copy-out-size c = search needs
-
-mul-copy-part : tie.Need-mul-copy-part Inv-loop μ-loop
-mul-copy-part c = search needs
-
-element-copy-out-copy-part : tie.Need-element-copy-out-copy-part Inv-loop μ-loop
-element-copy-out-copy-part c = search needs
-
-mul-copy-part-2 : tie.Need-mul-copy-part-2 Inv-loop μ-loop
-mul-copy-part-2 c = search needs
-
-element-copy-out-copy-part-2 : tie.Need-element-copy-out-copy-part-2 Inv-loop μ-loop
-element-copy-out-copy-part-2 c = search needs
-
-copy-part-requires : tie.Need-copy-part-requires Inv-loop μ-loop
+place-part-requires : tie.Need-place-part-requires Inv-loop μ-loop
 unfolding InWindow
-copy-part-requires c κs =
-    let a = c .before .before .before .before .before .before .before .before .args in
-    let p = c .before .before .before .before .before .before .before .before .pre in
-    let l = c .before .before .before .before .before .loop in
+place-part-requires c κs =
+    let a = c .before .before .before .before .before .args in
+    let p = c .before .before .before .before .before .pre in
+    let l = c .before .before .loop in
     let k : l .i < a .count = omega arith in
-    (p .4 (l .i) k .0, p .4 (l .i) k .1, omega (arith, l .inv .1, l .inv .3, next-room (a .window .now) (a .pages .now) (a .offsets .now) (a .sizes .now) (a .frame .now) (a .count) (p .1) (p .2) (p .3) (p .4) (p .5) (l .i) k))
+    let fits = next-fits (a .window .now) (a .pages .now) (a .offsets .now) (a .sizes .now) (a .frame .now) (a .count) (p .1) (p .2) (p .3) (p .4) (p .5) (l .i) k (l .frame) (l .at) (l .inv .1) in
+    (omega arith, omega arith, omega arith, omega arith, p .4 (l .i) k .0, p .4 (l .i) k .1, fits)
 
-wide-requires : tie.Need-wide-requires Inv-loop μ-loop
-wide-requires c κs = search needs
+add-place-part : tie.Need-add-place-part Inv-loop μ-loop
+add-place-part c = search needs
 
-add-at : tie.Need-add-at Inv-loop μ-loop
-add-at c =
-    let a = c .before .before .before .before .before .before .before .before .before .before .before .before .args in
-    let p = c .before .before .before .before .before .before .before .before .before .before .before .before .pre in
-    let l = c .before .before .before .before .before .before .before .before .before .loop in
-    let k : l .i < a .count = omega arith in
-    let size : length (a .frame .now) < 2 ^ 64 = search needs in
-    record { fits = omega (arith, c .wide .ensures, l .inv .1, next-room (a .window .now) (a .pages .now) (a .offsets .now) (a .sizes .now) (a .frame .now) (a .count) (p .1) (p .2) (p .3) (p .4) (p .5) (l .i) k) }
+-- between the two parts of a turn
+first-stands : (c : tie.After-place-part-arg2 Inv-loop μ-loop)
+    → let a = c .before .before .before .before .before .before .before .before .before .args in let x = c .before .before .before .place-part in
+    Standing (a .window .now) (a .pages .now) (a .offsets .now) (a .sizes .now) (a .frame .now) (c .before .before .before .before .before .before .loop .i + 1) (x .last .1 .1 .1 .1 .1 .0) (x .result)
+first-stands c =
+    let a = c .before .before .before .before .before .before .before .before .before .args in
+    let p = c .before .before .before .before .before .before .before .before .before .pre in
+    let l = c .before .before .before .before .before .before .loop in
+    let x = c .before .before .before .place-part in
+    next-stands (a .window .now) (a .pages .now) (a .offsets .now) (a .sizes .now) (a .frame .now) (a .count) (p .1) (p .2) (p .3) (p .4) (p .5) (l .i) (omega arith) (l .frame) (l .at) (l .inv .1) _ _ (x .ensures .0) (x .ensures .1)
+
+place-part-requires-2 : tie.Need-place-part-requires-2 Inv-loop μ-loop
+unfolding InWindow
+place-part-requires-2 c κs =
+    let a = c .before .before .before .before .before .before .before .before .before .args in
+    let p = c .before .before .before .before .before .before .before .before .before .pre in
+    let l = c .before .before .before .before .before .before .loop in
+    let k : l .i + 1 < a .count = omega arith in
+    let fits = next-fits (a .window .now) (a .pages .now) (a .offsets .now) (a .sizes .now) (a .frame .now) (a .count) (p .1) (p .2) (p .3) (p .4) (p .5) (l .i + 1) k _ _ (first-stands c) in
+    (omega arith, omega arith, omega arith, omega arith, p .4 (l .i + 1) k .0, p .4 (l .i + 1) k .1, fits)
 
 add-i : tie.Need-add-i Inv-loop μ-loop
 add-i c = search needs
@@ -75,23 +67,42 @@ loop-again c =
     let a = c .before .before .before .before .before .before .before .before .before .before .before .before .args in
     let p = c .before .before .before .before .before .before .before .before .before .before .before .before .pre in
     let l = c .before .before .before .before .before .before .before .before .before .loop in
+    let x = c .before .before .place-part2 in
+    let z : l .i + 1 + 1 ≡ l .i + 2 = omega arith in
+    let second = next-stands (a .window .now) (a .pages .now) (a .offsets .now) (a .sizes .now) (a .frame .now) (a .count) (p .1) (p .2) (p .3) (p .4) (p .5) (l .i + 1) (omega arith) _ _ (first-stands (c .before .before .before)) _ _ (x .ensures .0) (x .ensures .1) in
+    (omega arith, rw z at second)
+
+place-part-requires-3 : tie.Need-place-part-requires-3 Inv-loop μ-loop
+unfolding InWindow
+place-part-requires-3 c κs =
+    let a = c .before .before .before .before .before .before .args in
+    let p = c .before .before .before .before .before .before .pre in
+    let l = c .before .before .before .loop in
     let k : l .i < a .count = omega arith in
-    let e = c .before .before .before .copy-part .ensures ∙ next-frame (a .window .now) (a .pages .now) (a .offsets .now) (a .sizes .now) (a .frame .now) (a .count) (p .1) (p .2) (p .3) (p .4) (p .5) (l .i) k (l .frame) (l .at) (l .inv .1) (l .inv .2) in
-    let n = next-length (a .window .now) (a .pages .now) (a .offsets .now) (a .sizes .now) (a .frame .now) (a .count) (p .1) (p .2) (p .3) (p .4) (p .5) (l .i) k in (
-      omega arith,
-      omega (arith, c .wide .ensures, l .inv .1, n),
-      e,
-      ap length e ∙ splice-length (a .frame .now) 0 _ (omega (arith, n, next-room (a .window .now) (a .pages .now) (a .offsets .now) (a .sizes .now) (a .frame .now) (a .count) (p .1) (p .2) (p .3) (p .4) (p .5) (l .i) k)),
-    )
+    let fits = next-fits (a .window .now) (a .pages .now) (a .offsets .now) (a .sizes .now) (a .frame .now) (a .count) (p .1) (p .2) (p .3) (p .4) (p .5) (l .i) k (l .frame) (l .at) (l .inv .1) in
+    (omega arith, omega arith, omega arith, omega arith, p .4 (l .i) k .0, p .4 (l .i) k .1, fits)
 
 same-length : tie.Need-same-length Inv-loop μ-loop
 same-length c = search needs
 
 returns : tie.Need-returns Inv-loop μ-loop
 returns c =
-    let l = c .before .loop in
-    let z : l .i ≡ c .before .before .before .before .args .count = omega arith in
-    rw z at (l .inv .2)
+    let a = c .before .before .before .before .before .before .before .before .before .args in
+    let p = c .before .before .before .before .before .before .before .before .before .pre in
+    let l = c .before .before .before .before .before .before .loop in
+    let x = c .before .before .place-part3 in
+    let z : l .i + 1 ≡ a .count = omega arith in
+    let last = next-stands (a .window .now) (a .pages .now) (a .offsets .now) (a .sizes .now) (a .frame .now) (a .count) (p .1) (p .2) (p .3) (p .4) (p .5) (l .i) (omega arith) (l .frame) (l .at) (l .inv .1) _ _ (x .ensures .0) (x .ensures .1) in
+    rw z at (last .1)
+
+same-length-2 : tie.Need-same-length-2 Inv-loop μ-loop
+same-length-2 c = search needs
+
+returns-2 : tie.Need-returns-2 Inv-loop μ-loop
+returns-2 c =
+    let l = c .before .before .loop in
+    let z : l .i ≡ c .before .before .before .before .before .args .count = omega arith in
+    rw z at (l .inv .1 .1)
 
 pub gather-spec : {M : Type 1} → statement M
 gather-spec =
@@ -100,17 +111,15 @@ gather-spec =
     Inv-loop
     μ-loop
     loop-holds
-    mul-size
-    element-copy-out-size
-    mul-copy-part
-    element-copy-out-copy-part
-    mul-copy-part-2
-    element-copy-out-copy-part-2
-    copy-part-requires
-    wide-requires
-    add-at
+    add-loop
+    place-part-requires
+    add-place-part
+    place-part-requires-2
     add-i
     loop-less
     loop-again
+    place-part-requires-3
     same-length
-    returns)
+    returns
+    same-length-2
+    returns-2)
