@@ -32,11 +32,11 @@ pub fn fit_to_read(grants: &[u8], window: &[u8], gref: u32) -> Page
         return Page::Unfit;
     }
     let word = words::u32_at(grants, WORD * (gref as usize));
-    let page = word >> 2;
-    if window.len() / PAGE <= page as usize {
+    if !words::bit_of(word, 0) {
         return Page::Unfit;
     }
-    if !words::bit_of(word, 0) {
+    let page = word >> 2;
+    if window.len() / PAGE <= page as usize {
         return Page::Unfit;
     }
     Page::Fit(page)
@@ -57,10 +57,11 @@ pub fn fit_to_write(grants: &[u8], window: &[u8], gref: u32) -> Page
     match fit_to_read(grants, window, gref) {
         Page::Unfit => Page::Unfit,
         Page::Fit(page) => {
-            if !is_writable(grants, gref) {
-                return Page::Unfit;
+            if is_writable(grants, gref) {
+                Page::Fit(page)
+            } else {
+                Page::Unfit
             }
-            Page::Fit(page)
         }
     }
 }

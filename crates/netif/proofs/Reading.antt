@@ -14,9 +14,10 @@ use Rattle.netif.specs.Slot.{Slot, size, moreData, extraFollows}
 use Rattle.netif.specs.Decode.{dataOf}
 use Rattle.netif.specs.Divide.{whole, beginning, misshapen, scan, divide, alone}
 use Rattle.netif.specs.Packet.{firstOf, laterOf, sizes, gsoSizeOf, gsoTypeOf}
-use Rattle.netif.specs.Front.{outlineOf, frontOf, FrontRead, behind, goingOn, ExtrasRead}
+use Rattle.netif.specs.Front.{outlineOf, frontOf, FrontRead, behind, goingOn, ExtrasRead, AfterExtras}
 use Rattle.netif.specs.declared.DataSlot.{DataSlot}
 use Rattle.netif.specs.declared.divider.Shape.{Shape}
+use Rattle.netif.specs.declared.divider.Shape.the-variants as shape
 use Rattle.netif.specs.declared.divider.Extras.{Extras}
 use Rattle.netif.specs.declared.divider.Front.the-variants as front
 use Rattle.netif.proofs.Within.{within-one}
@@ -54,6 +55,15 @@ module _ (page : List ℕ) (first posted : ℕ) where
       ap (λ (k : ℕ). divide (slotsFrom 12 256 page first k)) z
       ∙ rw (sym (follows-bit _ head f) ∙ sym p, sym (more-bit _ head f) ∙ sym q, ← add-one first) (e .rest m)
       ∙ ap (λ (t : Shape). goingOn t (scan (behind page first posted (r .count + 1)) 1 (r .count) false m)) i
+
+  -- where the extras are whole, the later data slots are next
+  pub after-extras : (head : DataSlot) (x m : Bool) (r : Extras) → 1 ≤ posted → head ≡ dataOf (slotAt 12 256 page first) → x ≡ bit 3 (head .flags) → m ≡ bit 2 (head .flags)
+      → ExtrasRead page first posted x r → r .shape ≡ shape.Whole → AfterExtras page first posted m r
+  after-extras head x m r h f p q e i = record { few = e .few; limit = e .limit; rest = extras-read head x m r h f p q e shape.Whole i; gsoSize = e .gsoSize; gsoType = e .gsoType }
+
+  -- where none is announced, there are none
+  pub no-extras : 1 ≤ posted → ExtrasRead page first posted false (record { shape = shape.Whole; count = 0; «gso_size» = 0; «gso_type» = 0 })
+  no-extras h = record { few = h; limit = within-one; rest = λ more. refl; gsoSize = refl; gsoType = refl }
 
   -- ---- a packet of k later data slots and e extras
 

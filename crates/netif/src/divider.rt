@@ -204,7 +204,7 @@ fn read_rest(
 }
 
 // What stands at the front of the slots posted from counter first on. Of a whole packet the table gets the later data slots'
-// sizes, from the place 1 on.
+// sizes, from the place 1 on. Where no extra is announced the rest is read by a call of its own, with zeros that the compiler knows.
 pub fn read(page: &[u8], first: u32, posted: u32, sizes: &mut [u16; 18]) -> Front
     requires { ⌜ (length (now page) ≡ pageSize) × (1 ≤ posted) × (posted ≤ 256) × (length (now sizes) ≡ 18) ⌝ }
     ensures { λ r. ⌜
@@ -213,7 +213,12 @@ pub fn read(page: &[u8], first: u32, posted: u32, sizes: &mut [u16; 18]) -> Fron
 {
     let head = DataSlot::at(page, first);
     let more = head.more_data();
-    let extras = read_extras(page, first, posted, head.extra_follows());
+    let announced = head.extra_follows();
+    if !announced {
+        let none = extras_so_far(Shape::Whole, 0, 0, 0);
+        return read_rest(page, first, posted, none, more, sizes);
+    }
+    let extras = read_extras(page, first, posted, announced);
     let shape = extras.shape;
     match shape {
         Shape::Misshapen => Front::Misshapen,

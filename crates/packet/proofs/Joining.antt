@@ -69,8 +69,17 @@ module _ (window pages offsets sizes frame₀ : List ℕ) (count : ℕ) (p : cou
   next-room = omega (arith, next-length, joined-grows window (i + 1) count pages offsets sizes (omega arith))
 
   module _ (frame : List ℕ) (at : ℕ) (before : Standing window pages offsets sizes frame₀ i frame at) where
-    pub next-fits : at + getD sizes i 0 ≤ length frame
-    next-fits = omega (arith, before .0, before .2, next-room)
+    -- what `place_part` asks for
+    pub next-fits : count ≤ 18
+        → (i < 18)
+        × (i < length pages)
+        × (i < length offsets)
+        × (i < length sizes)
+        × (4096 * getD pages i 0 + 4096 ≤ length window)
+        × (getD offsets i 0 + getD sizes i 0 ≤ 4096)
+        × (at + getD sizes i 0 ≤ length frame)
+    unfolding InWindow
+    next-fits few = (omega arith, omega arith, omega arith, omega arith, inside i k .0, inside i k .1, omega (arith, before .0, before .2, next-room))
 
     pub next-stands : (frame₁ : List ℕ) (at₁ : ℕ)
         → frame₁ ≡ splice frame at (pagePart window (getD pages i 0) (getD offsets i 0) (getD sizes i 0)) → at₁ ≡ at + getD sizes i 0

@@ -43,7 +43,7 @@ fn place_part(
 }
 
 // Joins the parts that the first count places of the tables name at the front of the frame buffer. A turn copies two parts, as the
-// compiler does not unroll the loop by itself.
+// compiler does not unroll the loop by itself; the last of an odd number is left to the end.
 pub fn gather(
     window: &[u8],
     count: usize,
@@ -64,9 +64,10 @@ pub fn gather(
         now (frame .exit) ≡ splice (now (frame .entry)) 0
         (joined (now (window .entry)) (take count (now (pages .entry))) (take count (now (offsets .entry))) (take count (now (sizes .entry)))) ⌝ }
 {
+    let even = count - count % 2;
     let mut i: usize = 0;
     let mut at: usize = 0;
-    while i + 1 < count {
+    while i < even {
         at = place_part(window, i, pages, offsets, sizes, frame, at);
         at = place_part(window, i + 1, pages, offsets, sizes, frame, at);
         i += 2;

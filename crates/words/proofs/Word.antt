@@ -177,10 +177,6 @@ pair-bytes x y h g =
     let b : (x + 65536 * y) / 256 % 256 ≡ x / 256 % 256 = rw low (omega arith) in
     rw (a, b, high, top)
 
-pub halves : (l : List ℕ) (i : ℕ) → u16At l i + 65536 * u16At l (i + 2) ≡ u32At l i
-unfolding u16At u32At
-halves l i = rw (add-assoc i 2 1) (omega arith)
-
 pub u16-stored : (l : List ℕ) (i x : ℕ) → i + 2 ≤ length l → u16At (splice l i (u16Bytes x)) i ≡ x % 65536
 unfolding u16At u16Bytes
 u16-stored l i x h =

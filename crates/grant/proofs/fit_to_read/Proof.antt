@@ -16,28 +16,29 @@ mul-u32-at c = search needs
 u32-at-requires : tie.Need-u32-at-requires
 u32-at-requires c κs = search needs
 
-cast-if2 : tie.Need-cast-if2
-cast-if2 c = search needs
+bit-of-requires : tie.Need-bit-of-requires
+bit-of-requires c κs = search needs
 
 returns-2 : tie.Need-returns-2
 returns-2 c =
-    let a = c .before .before .before .before .before .args in
-    not-usable (a .grants .now) (a .window .now) (a .gref) (omega (arith, c .before .before .if1 .left)) (c .before .u32-at .result) (c .before .u32-at .ensures) (omega (arith, c .if2 .taken))
+    let a = c .before .before .before .before .before .before .args in
+    let r = c .before .before .u32-at in
+    not-granted (a .grants .now) (a .window .now) (a .gref) (omega (arith, c .before .before .before .if1 .left)) (r .result) (r .ensures) (sym (c .before .bit-of .ensures) ∙ not-true _ (c .if2 .taken))
 
-bit-of-requires : tie.Need-bit-of-requires
-bit-of-requires c κs = search needs
+cast-if3 : tie.Need-cast-if3
+cast-if3 c = search needs
 
 returns-3 : tie.Need-returns-3
 returns-3 c =
     let a = c .before .before .before .before .before .before .before .args in
     let r = c .before .before .before .u32-at in
-    not-granted (a .grants .now) (a .window .now) (a .gref) (omega (arith, c .before .before .before .before .if1 .left)) (r .result) (r .ensures) (sym (c .before .bit-of .ensures) ∙ not-true _ (c .if3 .taken))
+    not-usable (a .grants .now) (a .window .now) (a .gref) (omega (arith, c .before .before .before .before .if1 .left)) (r .result) (r .ensures) (omega (arith, c .if3 .taken))
 
 returns-4 : tie.Need-returns-4
 returns-4 c =
     let a = c .before .before .before .before .before .before .before .args in
     let r = c .before .before .before .u32-at in
-    is-fit (a .grants .now) (a .window .now) (a .gref) (omega (arith, c .before .before .before .before .if1 .left)) (r .result) (r .ensures) (omega (arith, c .before .before .if2 .left)) (sym (c .before .bit-of .ensures) ∙ not-false _ (c .if3 .left))
+    is-fit (a .grants .now) (a .window .now) (a .gref) (omega (arith, c .before .before .before .before .if1 .left)) (r .result) (r .ensures) (omega (arith, c .if3 .left)) (sym (c .before .before .bit-of .ensures) ∙ not-false _ (c .before .if2 .left))
 
 pub fit-to-read-spec : {M : Type 1} → statement M
 fit-to-read-spec =
@@ -46,8 +47,8 @@ fit-to-read-spec =
     returns
     mul-u32-at
     u32-at-requires
-    cast-if2
-    returns-2
     bit-of-requires
+    returns-2
+    cast-if3
     returns-3
     returns-4)

@@ -1,6 +1,5 @@
 -- `fit_to_write` meets its contract: fit for receive is fit for transmit and writable (`write-of`).
 use borrow.Author.Needs.{needs}
-use borrow.Author.Tests.{not-true, not-false}
 use mathlib.Core.Bool.{true, false}
 use Rattle.grant.specs.Grant.{writable}
 use Rattle.grant.specs.declared.Page.the-variants as page
@@ -26,23 +25,23 @@ is-writable-requires c κs =
 
 returns : tie.Need-returns
 returns c =
-    let a = c .before .before .before .before .before .before .before .before .args in
-    let e = rw (c .before .before .before .page .given .1) at (c .before .before .before .before .before .fit-to-read .ensures) in
-    let f = read-fit (a .grants .now) (a .window .now) (a .gref) _ e in
-    sym (write-of (a .grants .now) (a .window .now) (a .gref) true false (f .0) (sym (c .before .is-writable .ensures) ∙ not-true _ (c .if1 .taken)))
-
-returns-2 : tie.Need-returns-2
-returns-2 c =
     let a = c .before .before .before .before .before .args in
     let e = rw (c .enum-told .given .1) at (c .before .before .fit-to-read .ensures) in
     sym (write-of (a .grants .now) (a .window .now) (a .gref) false (writable (a .grants .now) (a .gref)) (read-unfit (a .grants .now) (a .window .now) (a .gref) e) refl)
+
+returns-2 : tie.Need-returns-2
+returns-2 c =
+    let a = c .before .before .before .before .before .before .before .before .args in
+    let e = rw (c .before .before .before .page .given .1) at (c .before .before .before .before .before .fit-to-read .ensures) in
+    let f = read-fit (a .grants .now) (a .window .now) (a .gref) _ e in
+    ap page.Fit (f .1) ∙ sym (write-of (a .grants .now) (a .window .now) (a .gref) true true (f .0) (sym (c .before .is-writable .ensures) ∙ c .if1 .taken))
 
 returns-3 : tie.Need-returns-3
 returns-3 c =
     let a = c .before .before .before .before .before .before .before .before .args in
     let e = rw (c .before .before .before .page .given .1) at (c .before .before .before .before .before .fit-to-read .ensures) in
     let f = read-fit (a .grants .now) (a .window .now) (a .gref) _ e in
-    ap page.Fit (f .1) ∙ sym (write-of (a .grants .now) (a .window .now) (a .gref) true true (f .0) (sym (c .before .is-writable .ensures) ∙ not-false _ (c .if1 .left)))
+    sym (write-of (a .grants .now) (a .window .now) (a .gref) true false (f .0) (sym (c .before .is-writable .ensures) ∙ c .if1 .left))
 
 pub fit-to-write-spec : {M : Type 1} → statement M
 fit-to-write-spec =
