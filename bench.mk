@@ -10,7 +10,7 @@ BUILD ?= build
 SAY ?= $(if $(V),,@echo "  $@";)
 
 BENCH_WARNINGS := -Wall -Wextra -Wpedantic -Wshadow -Wconversion -Werror
-BENCH_INCLUDES := -Iinclude
+BENCH_INCLUDES := -Iinclude -Ihost
 BENCH_FLAGS := -std=c11 -O2 $(BENCH_WARNINGS)
 # The library is compiled for any x86-64, and so is plain C. Nothing is optimised across the two.
 BENCH_PLAIN_FLAGS := -std=c11 -O3 -march=x86-64 -mtune=generic
@@ -18,7 +18,7 @@ BENCH_PLAIN := gcc $(shell gcc -dumpfullversion) $(BENCH_PLAIN_FLAGS)
 
 BENCH_PARTS := scene measure agree rows table bench
 BENCH_OBJECTS := $(addprefix $(BUILD)/bench/,plain.o $(BENCH_PARTS:%=%.o))
-BENCH_HEADERS := $(wildcard bench/*.h) include/tollmeander.h
+BENCH_HEADERS := $(wildcard bench/*.h) host/grant_table.h include/tollmeander.h
 # Plain C under the library's names.
 BENCH_YARDSTICK := $(BUILD)/bench/yardstick/libtollmeander.a
 

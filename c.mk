@@ -7,7 +7,7 @@
 #   test-programs       builds what the tests run
 
 TOLLMEANDER_LIB ?= target/staticlib/libtollmeander.a
-TOLLMEANDER_VERSION ?= 0.1.0
+TOLLMEANDER_VERSION ?= 0.2.0
 PREFIX ?= /usr/local
 BUILD ?= build
 

@@ -54,6 +54,13 @@ struct packet {
     struct data_slot data[TOLLMEANDER_PACKET_DATA_MAX];
 };
 
+/* What a grant gives: a range of a page. */
+struct range {
+    size_t page;                /* where the page begins in the window */
+    uint32_t start;             /* in the page */
+    uint32_t end;
+};
+
 /* A part of the window that goes into a frame. */
 struct part {
     const uint8_t *from;
@@ -113,17 +120,23 @@ static uint8_t *receive_slot(uint8_t *ring, uint32_t n)
     return slot_at(ring, n, TOLLMEANDER_RECEIVE_SLOT_SIZE);
 }
 
-/* Whether a reference is granted with all these bits; where its page begins in the window. */
-static bool find_page(const struct lent *lent, uint32_t gref, uint32_t bits, size_t *page)
+/* Whether a reference is granted with all these bits, and what it grants. */
+static inline bool find_range(const struct lent *lent, uint32_t gref, uint32_t bits,
+                              struct range *range)
 {
-    uint32_t word, number;
+    const uint8_t *word;
+    uint32_t access, number;
 
     if (gref >= lent->grant_words)
         return false;
-    word = get32(lent->grants + (size_t)gref * TOLLMEANDER_GRANT_SIZE);
-    number = word >> TOLLMEANDER_GRANT_PAGE_SHIFT;
-    *page = (size_t)number * TOLLMEANDER_PAGE_SIZE;
-    return (word & bits) == bits && number < lent->window_pages;
+    word = lent->grants + (size_t)gref * TOLLMEANDER_GRANT_WORD_SIZE;
+    access = get32(word);
+    number = access >> TOLLMEANDER_GRANT_PAGE_BIT;
+    range->page = (size_t)number * TOLLMEANDER_PAGE_SIZE;
+    range->start = get16(word + TOLLMEANDER_GRANT_START);
+    range->end = range->start + get16(word + TOLLMEANDER_GRANT_LENGTH);
+    return (access & bits) == bits && range->end <= TOLLMEANDER_PAGE_SIZE &&
+           number < lent->window_pages;
 }
 
 /* Reports an answer that has nothing else to tell. */
@@ -259,16 +272,16 @@ static uint32_t judge_sizes(uint32_t total, uint32_t later_sizes)
 }
 
 /* Finds what a data slot gives to the frame; the cause to refuse it, or 0. */
-static uint32_t find_part(const struct lent *lent, const uint8_t *window,
-                          const struct data_slot *slot, uint32_t length, struct part *part)
+static inline uint32_t find_part(const struct lent *lent, const uint8_t *window,
+                                 const struct data_slot *slot, uint32_t length, struct part *part)
 {
-    size_t page;
+    struct range range;
 
-    if (!find_page(lent, slot->gref, TOLLMEANDER_GRANTED, &page))
+    if (!find_range(lent, slot->gref, TOLLMEANDER_GRANTED, &range))
         return TOLLMEANDER_CAUSE_GRANT;
-    if (slot->offset + length > TOLLMEANDER_PAGE_SIZE)
+    if (slot->offset < range.start || slot->offset + length > range.end)
         return TOLLMEANDER_CAUSE_OFFSET;
-    *part = (struct part){ window + page + slot->offset, length };
+    *part = (struct part){ window + range.page + slot->offset, length };
     return 0;
 }
 
@@ -391,7 +404,7 @@ uint32_t plain_transmit_take(uint32_t *consumed, uint32_t *halted,
                              uint8_t *frame, size_t frame_len,
                              struct tollmeander_report *report)
 {
-    const struct lent lent = { consumed, ring, grants, grants_len / TOLLMEANDER_GRANT_SIZE,
+    const struct lent lent = { consumed, ring, grants, grants_len / TOLLMEANDER_GRANT_WORD_SIZE,
                                window_len / TOLLMEANDER_PAGE_SIZE, report };
     struct packet packet;
     struct data_slot head;
@@ -419,10 +432,15 @@ uint32_t plain_transmit_take(uint32_t *consumed, uint32_t *halted,
 }
 
 /* Whether a request's grant is fit; where its page begins in the window. */
-static bool find_request(const struct lent *lent, uint32_t n, size_t *page)
+static inline bool find_request(const struct lent *lent, uint32_t n, size_t *page)
 {
-    return find_page(lent, get32(receive_slot(lent->ring, n) + 4),
-                     TOLLMEANDER_GRANTED | TOLLMEANDER_GRANT_WRITABLE, page);
+    struct range range;
+
+    if (!find_range(lent, get32(receive_slot(lent->ring, n) + 4),
+                    TOLLMEANDER_GRANTED | TOLLMEANDER_GRANT_WRITABLE, &range))
+        return false;
+    *page = range.page;
+    return range.start == 0 && range.end == TOLLMEANDER_PAGE_SIZE;
 }
 
 /* Finds where the pieces of a frame go, or the first request that is not fit. */
@@ -512,7 +530,7 @@ uint32_t plain_receive_put(uint32_t *consumed, uint32_t *halted,
                            const uint8_t *frame, size_t frame_len,
                            struct tollmeander_report *report)
 {
-    const struct lent lent = { consumed, ring, grants, grants_len / TOLLMEANDER_GRANT_SIZE,
+    const struct lent lent = { consumed, ring, grants, grants_len / TOLLMEANDER_GRANT_WORD_SIZE,
                                window_len / TOLLMEANDER_PAGE_SIZE, report };
     uint32_t req_prod, posted, count;
 

@@ -3,6 +3,8 @@
 #include <stdbool.h>
 #include <string.h>
 
+#include "grant_table.h"
+
 enum {
     /* The counter wraps, and the slots go on at the ring's beginning, halfway through. */
     FIRST_COUNTER = -128,
@@ -161,9 +163,8 @@ static void post_all(struct scene *scene)
 static void grant_all(struct scene *scene)
 {
     for (uint32_t i = 0; i < SCENE_PAGES; i++)
-        put32(scene->grants + i * TOLLMEANDER_GRANT_SIZE,
-              i << TOLLMEANDER_GRANT_PAGE_SHIFT | GRANT_READ_WRITE);
-    put32(scene->grants + UNGRANTED * TOLLMEANDER_GRANT_SIZE, 0);
+        grant_table_set(scene->grants, i, i, GRANT_READ_WRITE);
+    grant_table_clear(scene->grants, UNGRANTED);
 }
 
 void scene_make(struct scene *scene, const struct row *row, unsigned place)

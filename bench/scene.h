@@ -45,7 +45,7 @@ struct scene {
     uint8_t window[SCENE_PAGES * TOLLMEANDER_PAGE_SIZE];
     uint8_t frame_room[SCENE_FRAME + TOLLMEANDER_PAGE_SIZE];
     uint8_t *frame;                             /* somewhere in the room for it */
-    uint8_t grants[(SCENE_PAGES + 1) * TOLLMEANDER_GRANT_SIZE];
+    uint8_t grants[(SCENE_PAGES + 1) * TOLLMEANDER_GRANT_WORD_SIZE];
     size_t frame_len;
     const struct row *row;
     uint32_t counter;                           /* before the first call */

@@ -2,6 +2,8 @@
 
 #include <string.h>
 
+#include "grant_table.h"
+
 enum { FIRST_GREF = 8 };
 
 static uint32_t transmit_page_number(uint32_t n)
@@ -39,21 +41,14 @@ uint8_t *guest_receive_page(struct guest_pages *pages, uint32_t n)
     return pages->window + TOLLMEANDER_PAGE_SIZE * receive_page_number(n);
 }
 
-static void grant(struct guest_pages *pages, uint32_t gref, uint32_t page, uint32_t bits)
-{
-    uint32_t word = page << TOLLMEANDER_GRANT_PAGE_SHIFT | bits;
-
-    for (uint32_t i = 0; i < TOLLMEANDER_GRANT_SIZE; i++)
-        pages->grants[TOLLMEANDER_GRANT_SIZE * gref + i] = (uint8_t)(word >> 8 * i);
-}
-
 void guest_pages_open(struct guest_pages *pages)
 {
     memset(pages, 0, sizeof *pages);
     for (uint32_t n = 0; n < TOLLMEANDER_RING_SLOTS; n++) {
-        grant(pages, guest_transmit_gref(n), transmit_page_number(n), TOLLMEANDER_GRANTED);
-        grant(pages, guest_receive_gref(n), receive_page_number(n),
-              TOLLMEANDER_GRANTED | TOLLMEANDER_GRANT_WRITABLE);
+        grant_table_set(pages->grants, guest_transmit_gref(n), transmit_page_number(n),
+                        TOLLMEANDER_GRANTED);
+        grant_table_set(pages->grants, guest_receive_gref(n), receive_page_number(n),
+                        TOLLMEANDER_GRANTED | TOLLMEANDER_GRANT_WRITABLE);
     }
 }
 

@@ -12,7 +12,7 @@ enum {
 };
 
 struct guest_pages {
-    uint8_t grants[GUEST_GRANTS * TOLLMEANDER_GRANT_SIZE];
+    uint8_t grants[GUEST_GRANTS * TOLLMEANDER_GRANT_WORD_SIZE];
     uint8_t window[GUEST_PAGES * TOLLMEANDER_PAGE_SIZE];
 };
 

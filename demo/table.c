@@ -17,7 +17,7 @@ static const char *cause_name(uint32_t cause)
 {
     static const char *const names[] = {
         "none", "too short", "reserved", "sizes above total", "page not granted",
-        "part leaves its page", "bad gso"
+        "part leaves its range", "bad gso"
     };
 
     return cause < sizeof names / sizeof names[0] ? names[cause] : "unknown";

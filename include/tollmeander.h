@@ -136,28 +136,54 @@ extern "C" {
  *
  * The window is the guest's pages as the host has mapped them, end to end: page
  * p is the octets 4096 * p to 4096 * p + 4095. The grant table has a word of
- * four octets for each grant reference from 0 on:
+ * eight octets for each grant reference from 0 on, that of reference g from octet
+ * 8 * g on:
  *
- *   bit 31 ............................ 2    1    0
+ *    0     1     2     3     4     5     6     7  octet
+ * +-----+-----+-----+-----+-----+-----+-----+-----+
+ * | page, w, g            | start     | length    |
+ * +-----+-----+-----+-----+-----+-----+-----+-----+
+ *
+ *   bit 31 ............................ 2    1    0  of octets 0 to 3
  * +-------------------------------------+----+----+
  * | page number in the window           | w  | g  |
  * +-------------------------------------+----+----+
  *
- * g: granted.  w: the page may be written.
+ * g:      granted.
+ * w:      the page may be written.
+ * start:  where the range that is granted begins in its page.
+ * length: the octets of the range. The whole page is start 0, length 4096.
  *
- * A reference is fit for transmit if its word lies wholly in the table, g is set
- * and its page lies wholly in the window; for receive w must be set too.
- * 0x0D grants page 3 to be read only.
+ * A reference is fit for transmit if its word lies wholly in the table, g is set,
+ * start plus length is at most 4096 and its page lies wholly in the window. A
+ * slot's part must lie in the range: offset not below start, offset plus part not
+ * above start plus length. For receive a reference must be fit for transmit, w be
+ * set too, and the range be the whole page.
  *
+ * 0D 00 00 00 00 00 00 10 grants page 3, the whole of it, to be read only.
+ *
+ * NOTE: A slot's offset counts from the first octet of the page, not from start.
+ * NOTE: Fill in the range too. A word with length 0 grants no octet: a part of one
+ *       octet or more is spoiled with cause OFFSET, a receive request with GRANT.
+ *       (An empty part at its start is still in range.)
+ * NOTE: Xen maps whole pages only. What it grants of a page's part can be had by
+ *       grant copy: copy it to where it stands in its page of the window.
+ * NOTE: A table of n octets has words for the references below n / 8. With Xen's
+ *       default of 64 grant frames they go up to 32767, which takes 256 KiB.
+ * NOTE: TOLLMEANDER_GRANT_SIZE and TOLLMEANDER_GRANT_PAGE_SHIFT are gone, with the
+ *       words of four octets that they laid out. A host that names them does not
+ *       compile: this library would read its table wrongly.
  * NOTE: The table is the host's own, not the guest's. Fill in a word only for a
  *       page that is mapped now, with the access that it was mapped with; clear
  *       it before unmapping, and where mapping failed. Keep a page mapped until
  *       the replies that concern it are published.
  */
-#define TOLLMEANDER_GRANT_SIZE          4u
-#define TOLLMEANDER_GRANTED             1u
+#define TOLLMEANDER_GRANT_WORD_SIZE     8u
+#define TOLLMEANDER_GRANTED             1u      /* bits of octets 0 to 3 */
 #define TOLLMEANDER_GRANT_WRITABLE      2u
-#define TOLLMEANDER_GRANT_PAGE_SHIFT    2
+#define TOLLMEANDER_GRANT_PAGE_BIT      2       /* the page number's lowest */
+#define TOLLMEANDER_GRANT_START         4u      /* octets of the word */
+#define TOLLMEANDER_GRANT_LENGTH        6u
 
 /*
  * Report
@@ -262,7 +288,7 @@ struct tollmeander_report {
 #define TOLLMEANDER_CAUSE_LONG          2u      /* reserved */
 #define TOLLMEANDER_CAUSE_SIZES         3u      /* later sizes above total */
 #define TOLLMEANDER_CAUSE_GRANT         4u      /* reference is not fit */
-#define TOLLMEANDER_CAUSE_OFFSET        5u      /* part leaves its page */
+#define TOLLMEANDER_CAUSE_OFFSET        5u      /* part leaves its range */
 #define TOLLMEANDER_CAUSE_GSO           6u      /* gso size 0 or type unknown */
 
 /*
@@ -349,9 +375,10 @@ struct tollmeander_report {
  *         slots, the counter moved by slots, rsp_prod equal to the counter.
  *         After SPOILED the same, but for frame. After EMPTY and WAITING
  *         req_event = req_prod + 1. After OVERFLOW and MISSHAPEN the mark 1.
- * Never:  hands over a part of a packet; replies to some slots of a packet and
- *         not to the others; writes frame beyond total, or unless DONE; writes
- *         grants or window; depends on slots that are not posted.
+ * Never:  hands over a part of a packet, or an octet that is not granted; replies
+ *         to some slots of a packet and not to the others; writes frame beyond
+ *         total, or unless DONE; writes grants or window; depends on slots that
+ *         are not posted.
  */
 uint32_t tollmeander_transmit_take(uint32_t *consumed, uint32_t *halted,
                                    uint8_t *ring, size_t ring_len,
@@ -379,9 +406,9 @@ uint32_t tollmeander_transmit_take(uint32_t *consumed, uint32_t *halted,
  *         REPLY_ERROR, and no page is written. After NO_BUFFERS
  *         req_event = req_prod + 1. After OVERFLOW the mark 1.
  * Never:  delivers a part of a frame; writes a page unless every request that
- *         the frame needs is fit; writes a page that is granted to be read only,
- *         or octets of a page beyond the piece; writes grants or frame; uses a
- *         request beyond the ones needed.
+ *         the frame needs is fit; writes a page that is granted to be read only
+ *         or in part, or octets of a page beyond the piece; writes grants or
+ *         frame; uses a request beyond the ones needed.
  *
  * NOTE: Two requests that name one page harm the guest alone: the later piece is
  *       written over the earlier one.

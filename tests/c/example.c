@@ -6,12 +6,16 @@ int main(void)
 {
     static uint8_t ring[TOLLMEANDER_PAGE_SIZE], window[4 * TOLLMEANDER_PAGE_SIZE];
     static uint8_t frame[TOLLMEANDER_FRAME_MAX];
-    const uint8_t grants[] = { 0, 0, 0, 0, 0, 0, 0, 0, 0, 0, 0, 0, 0x0D, 0, 0, 0 };
+    static uint8_t grants[4 * TOLLMEANDER_GRANT_WORD_SIZE];
+    const uint8_t word[] = { 0x0D, 0, 0, 0, 0, 0, 0x00, 0x10 };
     const uint8_t slot[] = { 3, 0, 0, 0, 100, 0, 0, 0, 7, 0, 60, 0 };
     uint32_t consumed = 0, halted = 0, answer;
     struct tollmeander_report report;
 
-    /* The guest: a frame of 60 bytes at offset 100 of page 3, which reference 3 grants. */
+    /* Reference 3 grants page 3 to be read: from byte 0 on, 4,096 bytes. */
+    memcpy(grants + 3 * TOLLMEANDER_GRANT_WORD_SIZE, word, sizeof word);
+
+    /* The guest: a frame of 60 bytes at offset 100 of that page. */
     strcpy((char *)window + 3 * TOLLMEANDER_PAGE_SIZE + 100, "hello from the guest");
     memcpy(ring + TOLLMEANDER_RING_FIRST_SLOT, slot, sizeof slot);
     ring[TOLLMEANDER_RING_REQ_PROD] = 1;

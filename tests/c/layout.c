@@ -67,10 +67,12 @@ IS(TOLLMEANDER_PACKET_EXTRAS_MAX, 4);
 IS(TOLLMEANDER_PACKET_SLOTS_MAX, TOLLMEANDER_PACKET_DATA_MAX + TOLLMEANDER_PACKET_EXTRAS_MAX);
 IS(TOLLMEANDER_FRAME_MIN, 14);
 IS(TOLLMEANDER_FRAME_MAX, 65535);
-IS(TOLLMEANDER_GRANT_SIZE, 4);
+IS(TOLLMEANDER_GRANT_WORD_SIZE, 8);
 IS(TOLLMEANDER_GRANTED, 1);
 IS(TOLLMEANDER_GRANT_WRITABLE, 2);
-IS(TOLLMEANDER_GRANT_PAGE_SHIFT, 2);
+IS(TOLLMEANDER_GRANT_PAGE_BIT, 2);
+IS(TOLLMEANDER_GRANT_START, 4);
+IS(TOLLMEANDER_GRANT_LENGTH, 6);
 
 enum {
     UNWRITTEN = 0x5A5A5A5A,
@@ -81,7 +83,9 @@ enum {
     OTHER_GREF = 5,         /* page 2, writable */
     CLEAR_GREF = 6,         /* a word that does not grant */
     OUTER_GREF = 7,         /* page 4, which is not in the window */
-    GRANTS = 8,
+    RANGE_GREF = 8,         /* a range of page 1, set by each check */
+    GRANTS = 9,
+    ACCESS = TOLLMEANDER_GRANTED | TOLLMEANDER_GRANT_WRITABLE,
     MORE_DATA = 4,
     EXTRA_FOLLOWS = 8,
     ANOTHER_EXTRA = 1
@@ -90,7 +94,7 @@ enum {
 /* What is lent, and a report between two words that must not be written. */
 static uint32_t consumed, halted;
 static uint8_t ring[TOLLMEANDER_PAGE_SIZE + 1];
-static uint8_t grants[GRANTS * TOLLMEANDER_GRANT_SIZE];
+static uint8_t grants[GRANTS * TOLLMEANDER_GRANT_WORD_SIZE];
 static uint8_t window[PAGES * TOLLMEANDER_PAGE_SIZE];
 static uint8_t frame[TOLLMEANDER_FRAME_MAX + 1];
 static struct {
@@ -116,12 +120,22 @@ static uint32_t get32(const uint8_t *at)
     return at[0] | (uint32_t)at[1] << 8 | (uint32_t)at[2] << 16 | (uint32_t)at[3] << 24;
 }
 
-static void grant(uint32_t gref, uint32_t page, uint32_t bits)
+static void grant_range(uint32_t gref, uint32_t page, uint32_t bits, uint32_t start,
+                        uint32_t length)
 {
-    put32(grants + TOLLMEANDER_GRANT_SIZE * gref, page << TOLLMEANDER_GRANT_PAGE_SHIFT | bits);
+    uint8_t *word = grants + TOLLMEANDER_GRANT_WORD_SIZE * gref;
+
+    put32(word, page << TOLLMEANDER_GRANT_PAGE_BIT | bits);
+    put16(word + TOLLMEANDER_GRANT_START, start);
+    put16(word + TOLLMEANDER_GRANT_LENGTH, length);
 }
 
-/* A fresh queue at a counter, with all four kinds of grant. */
+static void grant(uint32_t gref, uint32_t page, uint32_t bits)
+{
+    grant_range(gref, page, bits, 0, TOLLMEANDER_PAGE_SIZE);
+}
+
+/* A fresh queue at a counter, with all four kinds of grant to whole pages. */
 static void open_queue(uint32_t counter)
 {
     consumed = counter;
@@ -132,10 +146,10 @@ static void open_queue(uint32_t counter)
     put32(ring + TOLLMEANDER_RING_RSP_EVENT, counter + 1);
     memset(grants, 0, sizeof grants);
     grant(READ_GREF, 3, TOLLMEANDER_GRANTED);
-    grant(WRITE_GREF, 1, TOLLMEANDER_GRANTED | TOLLMEANDER_GRANT_WRITABLE);
-    grant(OTHER_GREF, 2, TOLLMEANDER_GRANTED | TOLLMEANDER_GRANT_WRITABLE);
+    grant(WRITE_GREF, 1, ACCESS);
+    grant(OTHER_GREF, 2, ACCESS);
     grant(CLEAR_GREF, 0, TOLLMEANDER_GRANT_WRITABLE);
-    grant(OUTER_GREF, PAGES, TOLLMEANDER_GRANTED | TOLLMEANDER_GRANT_WRITABLE);
+    grant(OUTER_GREF, PAGES, ACCESS);
     for (size_t i = 0; i < sizeof window; i++)
         window[i] = (uint8_t)(i * 7 + i / TOLLMEANDER_PAGE_SIZE);
     memset(frame, UNCOPIED, sizeof frame);
@@ -394,6 +408,78 @@ static void check_parts(void)
     }
 }
 
+/*
+ * Checks a packet of two slots whose second takes a part of page 1 by a grant of a range: done, or
+ * spoiled for a cause of that slot.
+ */
+static void check_range(uint32_t start, uint32_t length, uint32_t offset, uint32_t part,
+                        uint32_t cause)
+{
+    const uint32_t least = TOLLMEANDER_FRAME_MIN;
+
+    open_queue(0);
+    grant_range(RANGE_GREF, 1, TOLLMEANDER_GRANTED, start, length);
+    post_data(READ_GREF, 0, MORE_DATA, 1, least + part);
+    post_data(RANGE_GREF, offset, 0, 2, part);
+    if (cause != 0) {
+        REPORTS(TAKE(), TOLLMEANDER_SPOILED, cause, 1, 2, 1, 0);
+        return;
+    }
+    REPORTS(TAKE(), TOLLMEANDER_DONE, 0, 0, 2, 1, least + part, 0);
+    CHECK(copied(frame + least, window + TOLLMEANDER_PAGE_SIZE + offset, part));
+}
+
+/* The ends of a range, and the octets beside them; ranges of no octet, and to the page's end. */
+static void check_ranges(void)
+{
+    const uint32_t page = TOLLMEANDER_PAGE_SIZE;
+    const uint32_t outside = TOLLMEANDER_CAUSE_OFFSET, unfit = TOLLMEANDER_CAUSE_GRANT;
+
+    check_range(100, 60, 100, 60, 0);
+    check_range(100, 60, 99, 60, outside);
+    check_range(100, 60, 99, 1, outside);
+    check_range(100, 60, 100, 61, outside);
+    check_range(100, 60, 159, 1, 0);
+    check_range(100, 60, 160, 1, outside);
+    check_range(100, 60, 160, 0, 0);
+    check_range(100, 60, 161, 0, outside);
+    check_range(100, 60, 99, 0, outside);
+    check_range(100, 60, 0, 60, outside);
+    check_range(100, 0, 100, 0, 0);
+    check_range(100, 0, 99, 0, outside);
+    check_range(100, 0, 101, 0, outside);
+    check_range(0, 0, 0, 1, outside);
+    check_range(1, page - 1, 1, page - 1, 0);
+    check_range(1, page, 1, 1, unfit);
+    check_range(0, page + 1, 0, 1, unfit);
+    check_range(page, 0, page, 0, 0);
+    check_range(page, 1, page, 0, unfit);
+    check_range(page + 1, 0, page + 1, 0, unfit);
+    check_range(UINT16_MAX, 1, 0, 0, unfit);
+    check_range(UINT16_MAX, UINT16_MAX, UINT16_MAX, 0, unfit);
+}
+
+/* A word whose last octet is not in the table is none. */
+static void check_last_word(void)
+{
+    const size_t whole = TOLLMEANDER_GRANT_WORD_SIZE * (WRITE_GREF + 1);
+
+    for (size_t missing = 0; missing <= TOLLMEANDER_GRANT_WORD_SIZE; missing++) {
+        uint32_t answer;
+
+        open_queue(0);
+        post_data(WRITE_GREF, 0, 0, 1, 60);
+        spoil_report();
+        answer = tollmeander_transmit_take(&consumed, &halted, ring, TOLLMEANDER_PAGE_SIZE, grants,
+                                           whole - missing, window, sizeof window, frame,
+                                           sizeof frame, &lent.report);
+        if (missing == 0)
+            REPORTS(answer, TOLLMEANDER_DONE, 0, 0, 1, 1, 60, 0);
+        else
+            REPORTS(answer, TOLLMEANDER_SPOILED, TOLLMEANDER_CAUSE_GRANT, 0, 1, 1, 0);
+    }
+}
+
 /* A frame of every length that one page or two take, into pages that lie side by side. */
 static void check_pieces(void)
 {
@@ -451,6 +537,33 @@ static void check_receive_refusals(void)
     CHECK(get32(receive_slot(1) + 4) == (uint32_t)TOLLMEANDER_REPLY_ERROR << 16);
     CHECK(window[TOLLMEANDER_PAGE_SIZE] != frame[0]);
     CHECK(consumed == 2 && halted == 0);
+}
+
+/* Receive wants the whole page: a range of it is not fit, however short the frame is. */
+static void check_receive_range(uint32_t start, uint32_t length, int fit)
+{
+    open_queue(0);
+    grant_range(RANGE_GREF, 1, ACCESS, start, length);
+    post_request(9, RANGE_GREF);
+    if (fit) {
+        REPORTS(PUT(60), TOLLMEANDER_DONE, 0, 0, 1, 1, 60, 0);
+    } else {
+        REPORTS(PUT(60), TOLLMEANDER_SPOILED, TOLLMEANDER_CAUSE_GRANT, 0, 1, 1, 0);
+        CHECK(window[TOLLMEANDER_PAGE_SIZE] != frame[0]);
+    }
+}
+
+static void check_receive_ranges(void)
+{
+    const uint32_t page = TOLLMEANDER_PAGE_SIZE;
+
+    check_receive_range(0, page, 1);
+    check_receive_range(0, page - 1, 0);
+    check_receive_range(1, page - 1, 0);
+    check_receive_range(0, page + 1, 0);
+    check_receive_range(1, page, 0);
+    check_receive_range(0, 60, 0);
+    check_receive_range(0, 0, 0);
 }
 
 /* Posts as many slots of each kind as the header says; the last of each kind has these flags. */
@@ -518,9 +631,12 @@ int main(void)
     check_causes();
     check_totals();
     check_parts();
+    check_ranges();
+    check_last_word();
     check_pieces();
     check_receive_done();
     check_receive_refusals();
+    check_receive_ranges();
     check_packet_slots();
     check_empty_buffers();
     check_odd_addresses();

@@ -43,6 +43,7 @@ demo() {
 test_of 'layout: header and library agree' program tests/layout
 test_of 'symbols: memmove only, PIE, shared object' sh tests/c/symbols.sh "$lib" "$work"
 test_of 'install: pkg-config, C99, C++' sh tests/c/install.sh "$lib" "$work"
+test_of 'header: words of four octets do not compile' sh tests/c/old_table.sh "$work"
 test_of 'example: as in the README' sh tests/c/example.sh "$lib" "$work"
 test_of 'host: edges' program tests/edges
 test_of 'host: every interleaving of one call' program tests/interleave

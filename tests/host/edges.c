@@ -8,6 +8,7 @@
 
 #include "back_ring.h"
 #include "check.h"
+#include "grant_table.h"
 #include "ring_page.h"
 #include "slot_bits.h"
 
@@ -21,7 +22,7 @@ enum {
 static struct ring_page page, before;
 static struct back_ring ring;
 static struct tollmeander_report report;
-static uint8_t grants[GRANTS * TOLLMEANDER_GRANT_SIZE];
+static uint8_t grants[GRANTS * TOLLMEANDER_GRANT_WORD_SIZE];
 static uint8_t window[PAGES * TOLLMEANDER_PAGE_SIZE];
 static uint8_t frame[TOLLMEANDER_FRAME_MAX];
 static const struct guest_memory memory = { grants, sizeof grants, window, sizeof window };
@@ -44,8 +45,7 @@ static void open_page(uint32_t counter)
     set_word(RING_REQ_PROD, counter);
     set_word(RING_RSP_PROD, counter);
     for (uint32_t i = 0; i < PAGES; i++)
-        grants[TOLLMEANDER_GRANT_SIZE * (GREF + i)] =
-            (uint8_t)(i << 2 | TOLLMEANDER_GRANTED | TOLLMEANDER_GRANT_WRITABLE);
+        grant_table_set(grants, GREF + i, i, TOLLMEANDER_GRANTED | TOLLMEANDER_GRANT_WRITABLE);
     memset(window, 0xEE, sizeof window);
 }
 
@@ -288,6 +288,25 @@ static void no_room_keeps_the_packet(void)
     CHECK(word(ring_slot(TRANSMIT_SLOT_WORDS, 1)) == 77);
 }
 
+/* Words of a grant table are as tollmeander.h draws them, and nothing beside them is written. */
+static void grant_words_are_laid_out(void)
+{
+    static const uint8_t whole[] = { 0x0D, 0, 0, 0, 0, 0, 0x00, 0x10 };
+    static const uint8_t range[] = { 0xFF, 0xFF, 0xFF, 0xFF, 0x02, 0x01, 0x04, 0x03 };
+    static const uint8_t none[sizeof whole];
+    uint8_t table[3 * sizeof whole];
+
+    memset(table, 0xEE, sizeof table);
+    grant_table_set(table, 1, 3, TOLLMEANDER_GRANTED);
+    CHECK(memcmp(table + sizeof whole, whole, sizeof whole) == 0);
+    grant_table_set_range(table, 1, 0x3FFFFFFF, TOLLMEANDER_GRANTED | TOLLMEANDER_GRANT_WRITABLE,
+                          0x0102, 0x0304);
+    CHECK(memcmp(table + sizeof whole, range, sizeof range) == 0);
+    grant_table_clear(table, 1);
+    CHECK(memcmp(table + sizeof whole, none, sizeof none) == 0);
+    CHECK(table[sizeof whole - 1] == 0xEE && table[2 * sizeof whole] == 0xEE);
+}
+
 /* Slots that were posted before the host opened the ring are found. */
 static void finds_slots_posted_before(void)
 {
@@ -312,6 +331,7 @@ int main(void)
     overflow_behind_a_bad_length();
     misshapen_halts();
     no_room_keeps_the_packet();
+    grant_words_are_laid_out();
     finds_slots_posted_before();
     return check_result("edges");
 }

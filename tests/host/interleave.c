@@ -11,6 +11,7 @@
 #include <string.h>
 
 #include "check.h"
+#include "grant_table.h"
 #include "ring_page.h"
 #include "slot_bits.h"
 
@@ -65,7 +66,7 @@ static struct pending_store pending[MOST_STORES];
 static uint32_t pending_count, point;
 static bool stores_are_late;
 
-static uint8_t grants[(GREF + PAGES) * TOLLMEANDER_GRANT_SIZE];
+static uint8_t grants[(GREF + PAGES) * TOLLMEANDER_GRANT_WORD_SIZE];
 static uint8_t window[PAGES * TOLLMEANDER_PAGE_SIZE];
 static uint8_t frame[PAGES * TOLLMEANDER_PAGE_SIZE];
 
@@ -172,8 +173,7 @@ static void set_up(uint32_t posted)
     page_store(&page.word[RING_RSP_PROD], counter);
     page_store(&page.word[RING_RSP_EVENT], counter);
     for (uint32_t i = 0; i < PAGES; i++)
-        grants[TOLLMEANDER_GRANT_SIZE * (GREF + i)] =
-            (uint8_t)(i << 2 | TOLLMEANDER_GRANTED | TOLLMEANDER_GRANT_WRITABLE);
+        grant_table_set(grants, GREF + i, i, TOLLMEANDER_GRANTED | TOLLMEANDER_GRANT_WRITABLE);
     if (is_transmit)
         back_ring_open_transmit(&ring, &page, counter);
     else

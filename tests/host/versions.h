@@ -15,6 +15,7 @@
 #include <stdint.h>
 
 #include "back_ring.h"
+#include "grant_table.h"
 #include "rng.h"
 #include "tollmeander.h"
 
@@ -29,7 +30,7 @@ enum rewriting { ONE_WORD, EVERY_WORD };
 
 /* The guest's pages and grants. */
 struct version_pages {
-    uint8_t grants[(VERSION_FIRST_GREF + VERSION_PAGES) * TOLLMEANDER_GRANT_SIZE];
+    uint8_t grants[(VERSION_FIRST_GREF + VERSION_PAGES) * TOLLMEANDER_GRANT_WORD_SIZE];
     uint8_t window[VERSION_PAGES * TOLLMEANDER_PAGE_SIZE];
 };
 
@@ -62,14 +63,9 @@ static inline uint32_t version_count(enum rewriting rewriting, uint32_t n, uint3
 
 static inline void version_pages_grant(struct version_pages *pages)
 {
-    for (uint32_t i = 0; i < VERSION_PAGES; i++) {
-        uint32_t word = i << TOLLMEANDER_GRANT_PAGE_SHIFT | TOLLMEANDER_GRANTED |
-                        TOLLMEANDER_GRANT_WRITABLE;
-        uint8_t *grant = pages->grants + TOLLMEANDER_GRANT_SIZE * (VERSION_FIRST_GREF + i);
-
-        for (uint32_t k = 0; k < TOLLMEANDER_GRANT_SIZE; k++)
-            grant[k] = (uint8_t)(word >> 8 * k);
-    }
+    for (uint32_t i = 0; i < VERSION_PAGES; i++)
+        grant_table_set(pages->grants, VERSION_FIRST_GREF + i, i,
+                        TOLLMEANDER_GRANTED | TOLLMEANDER_GRANT_WRITABLE);
 }
 
 static inline struct guest_memory version_pages_memory(struct version_pages *pages)

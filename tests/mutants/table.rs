@@ -114,13 +114,21 @@ pub const MUTANTS: &[Mutant] = &[
     ),
     mutant(
         "part_may_not_reach_the_pages_end",
-        &[edit("transmit.rs", "piece.part > PAGE_BYTES as i64", "piece.part >= PAGE_BYTES as i64")],
+        &[edit("grants.rs", "offset + part <= self.end()", "offset + part <= self.end().min(4095)")],
     ),
     mutant(
         "grant_of_an_empty_part_untested",
         &[
-            edit("transmit.rs", "Access::Read).is_none() {", "Access::Read).is_none() && piece.part != 0 {"),
-            edit("transmit.rs", ".expect(\"a fit grant\")", ".unwrap_or(0)"),
+            edit(
+                "transmit.rs",
+                "None => found.push((4, piece.place)),",
+                "None if piece.part == 0 => {} None => found.push((4, piece.place)),",
+            ),
+            edit(
+                "transmit.rs",
+                "pieces(packet).into_iter()",
+                "pieces(packet).into_iter().filter(|piece| piece.part > 0)",
+            ),
         ],
     ),
     mutant("gso_before_the_slots", &[edit("transmit.rs", "found.push((6, ", "found.insert(0, (6, ")]),
@@ -139,31 +147,207 @@ pub const MUTANTS: &[Mutant] = &[
     mutant("place_counts_data_slots_only", &[edit("transmit.rs", "1 + packet.extras.len()..;", "1..;")]),
     mutant(
         "reference_wraps_in_32_bits",
-        &[
-            edit("grants.rs", "4 * gref + 4 <=", "4 * gref % 4_294_967_296 + 4 <="),
-            edit("grants.rs", "4 * gref as usize", "(4 * gref % 4_294_967_296) as usize"),
-        ],
+        &[edit("grants.rs", "let at = WORD_BYTES * gref;", "let at = WORD_BYTES * gref % 4_294_967_296;")],
     ),
     mutant(
         "page_wraps_in_32_bits",
         &[edit("grants.rs", "let page = word / 4;", "let page = word / 4 % 1_048_576;")],
     ),
-    mutant("last_grant_word_ignored", &[edit("grants.rs", "4 * gref + 4 <=", "4 * gref + 4 <")]),
+    mutant("last_grant_word_ignored", &[edit("grants.rs", "at + WORD_BYTES <=", "at + WORD_BYTES <")]),
+    mutant(
+        "grant_words_of_four_bytes",
+        &[
+            edit("grants.rs", "WORD_BYTES * gref", "4 * gref"),
+            edit("grants.rs", "at + WORD_BYTES <=", "at + 4 <="),
+            edit("grants.rs", "(number(bytes, 4, 2) as i64, number(bytes, 6, 2) as i64)", "(0, 4096)"),
+        ],
+    ),
+    mutant(
+        "grant_word_without_its_range_taken",
+        &[
+            edit("grants.rs", "at + WORD_BYTES <=", "at + 4 <="),
+            edit(
+                "grants.rs",
+                "number(bytes, 4, 2)",
+                "number(bytes.get(4..8).unwrap_or(&[0, 0, 0, 16]), 0, 2)",
+            ),
+            edit(
+                "grants.rs",
+                "number(bytes, 6, 2)",
+                "number(bytes.get(4..8).unwrap_or(&[0, 0, 0, 16]), 2, 2)",
+            ),
+        ],
+    ),
+    mutant(
+        "grant_word_without_its_last_byte_taken",
+        &[
+            edit("grants.rs", "at + WORD_BYTES <=", "at + 7 <="),
+            edit("grants.rs", "number(bytes, 6, 2)", "number(bytes.get(6..8).unwrap_or(&[0, 16]), 0, 2)"),
+        ],
+    ),
+    mutant(
+        "range_length_before_start",
+        &[edit("grants.rs", "let (start, length) =", "let (length, start) =")],
+    ),
     mutant(
         "last_page_of_the_window_ignored",
-        &[edit("grants.rs", "<= window.len() as u64;", "< window.len() as u64;")],
+        &[edit("grants.rs", "PAGE_BYTES <= window.len()", "PAGE_BYTES < window.len()")],
     ),
-    mutant(
-        "grant_bit_ignored",
-        &[edit("grants.rs", "let granted = bit(word, 0);", "let granted = word > 0;")],
-    ),
+    mutant("grant_bit_ignored", &[edit("grants.rs", "granted: bit(word, 0)", "granted: word > 0")]),
     mutant(
         "transmit_wants_a_writable_page",
-        &[edit("transmit.rs", "Access::Read).is_none()", "Access::Write).is_none()")],
+        &[edit(
+            "transmit.rs",
+            "piece.gref, Access::Read) {",
+            "piece.gref, Access::Read).filter(|grant| grant.writable) {",
+        )],
     ),
     mutant(
         "receive_writes_a_read_only_page",
-        &[edit("receive.rs", "r.gref, Access::Write", "r.gref, Access::Read")],
+        &[edit("grants.rs", "self.writable && self.range", "self.range")],
+    ),
+    mutant(
+        "range_start_ignored",
+        &[edit("grants.rs", "self.start <= offset && offset + part", "offset + part")],
+    ),
+    mutant(
+        "range_length_ignored",
+        &[edit("grants.rs", "offset + part <= self.end()", "offset + part <= PAGE_BYTES as i64")],
+    ),
+    mutant(
+        "offset_counts_from_the_ranges_start",
+        &[
+            edit(
+                "grants.rs",
+                "self.start <= offset && offset + part <= self.end()",
+                "offset + part <= self.length",
+            ),
+            edit("transmit.rs", "piece.offset as usize;", "(grant.range.start + piece.offset) as usize;"),
+        ],
+    ),
+    mutant(
+        "range_end_taken_as_its_length",
+        &[edit("grants.rs", "offset + part <= self.end()", "offset + part <= self.length")],
+    ),
+    mutant(
+        "part_may_not_reach_the_ranges_end",
+        &[edit("grants.rs", "offset + part <= self.end()", "offset + part < self.end()")],
+    ),
+    mutant(
+        "part_may_not_begin_at_the_ranges_start",
+        &[edit("grants.rs", "self.start <= offset &&", "(self.start < offset || offset == 0) &&")],
+    ),
+    mutant(
+        "offset_of_an_empty_part_untested",
+        &[
+            edit("grants.rs", "self.start <= offset &&", "part == 0 || self.start <= offset &&"),
+            edit(
+                "transmit.rs",
+                "pieces(packet).into_iter()",
+                "pieces(packet).into_iter().filter(|piece| piece.part > 0)",
+            ),
+        ],
+    ),
+    mutant(
+        "empty_part_before_the_range_taken",
+        &[edit("grants.rs", "self.start <= offset &&", "(part == 0 || self.start <= offset) &&")],
+    ),
+    mutant(
+        "empty_part_behind_the_range_taken",
+        &[edit(
+            "grants.rs",
+            "offset + part <= self.end()",
+            "(offset + part <= self.end() || part == 0 && offset <= PAGE_BYTES as i64)",
+        )],
+    ),
+    mutant(
+        "empty_part_at_the_ranges_end_refused",
+        &[edit(
+            "grants.rs",
+            "offset + part <= self.end()",
+            "offset + part <= self.end() && (offset < self.end() || offset == self.start)",
+        )],
+    ),
+    mutant(
+        "range_to_the_pages_end_refused",
+        &[edit(
+            "grants.rs",
+            "self.range.end() <= PAGE_BYTES as i64",
+            "(self.range.end() < PAGE_BYTES as i64 || self.range == WHOLE_PAGE)",
+        )],
+    ),
+    mutant(
+        "range_one_past_the_page_passes",
+        &[edit("grants.rs", "self.range.end() <= PAGE_BYTES as i64", "self.range.end() <= 4097")],
+    ),
+    mutant(
+        "range_added_in_16_bits",
+        &[edit("grants.rs", "self.start + self.length", "(self.start + self.length) % 65_536")],
+    ),
+    mutant(
+        "range_past_the_page_is_cause_5",
+        &[
+            edit("grants.rs", "self.range.end() <= PAGE_BYTES as i64", "true"),
+            edit("grants.rs", "self.start <= offset &&", "self.end() <= 4096 && self.start <= offset &&"),
+        ],
+    ),
+    mutant(
+        "range_tested_before_the_grant",
+        &[edit(
+            "transmit.rs",
+            "None => found.push((4, piece.place)),",
+            "None if super::grants::grant(lent.grants, piece.gref)
+                .is_some_and(|grant| !grant.range.holds(piece.offset, piece.part)) =>
+            {
+                found.push((5, piece.place))
+            }
+            None => found.push((4, piece.place)),",
+        )],
+    ),
+    mutant(
+        "range_of_0_bytes_refused",
+        &[edit("grants.rs", "usable && in_page", "usable && in_page && self.range.length > 0")],
+    ),
+    mutant(
+        "transmit_wants_the_whole_page",
+        &[edit("grants.rs", "Access::Read => true", "Access::Read => self.range == WHOLE_PAGE")],
+    ),
+    mutant(
+        "receive_range_may_begin_late",
+        &[edit("grants.rs", "self.range == WHOLE_PAGE", "self.range.end() == WHOLE_PAGE.end()")],
+    ),
+    mutant(
+        "receive_range_may_end_early",
+        &[edit("grants.rs", "self.range == WHOLE_PAGE", "self.range.start == 0")],
+    ),
+    mutant(
+        "receive_range_of_the_piece_is_enough",
+        &[edit(
+            "receive.rs",
+            "requests.iter().map(grant)",
+            "requests.iter().zip(lent.frame.chunks(PIECE_BYTES)).map(|(r, piece)| {
+                let grant = fit_grant(lent.grants, lent.window, r.gref, Access::Read);
+                grant.filter(|grant| grant.writable && grant.range.holds(0, piece.len() as i64))
+            })",
+        )],
+    ),
+    mutant(
+        "receive_asks_for_the_ranges_length_only",
+        &[
+            edit("grants.rs", "in_page && enough", "(in_page || access == Access::Write) && enough"),
+            edit("grants.rs", "self.range == WHOLE_PAGE", "self.range.length == WHOLE_PAGE.length"),
+        ],
+    ),
+    mutant(
+        "receive_range_may_be_longer_than_the_page",
+        &[
+            edit("grants.rs", "in_page && enough", "(in_page || access == Access::Write) && enough"),
+            edit(
+                "grants.rs",
+                "self.range == WHOLE_PAGE",
+                "self.range.start == 0 && self.range.length >= WHOLE_PAGE.length",
+            ),
+        ],
     ),
     mutant(
         "no_room_before_spoiled",

@@ -30,8 +30,11 @@ abbrev pub request : (id : ℕ) → Slot
 request id = u16Bytes id ++ u16Bytes 0 ++ u32Bytes 0
 
 -- one, two and three data slots: of these sizes; of 5000, 1000 and 500 bytes, the first at an offset
+abbrev pub oneAt : (offset : ℕ) → ℕ → List Slot
+oneAt offset a = dataSlot offset 0 1 a ∷ []
+
 abbrev pub one : ℕ → List Slot
-one a = dataSlot 0 0 1 a ∷ []
+one a = oneAt 0 a
 
 abbrev pub two : ℕ → ℕ → List Slot
 two a b = dataSlot 0 4 1 a ∷ dataSlot 0 0 2 b ∷ []
@@ -68,8 +71,19 @@ ringPage posted slots = let b = header posted 1 ++ zeros 48 ++ laid slots in b +
 
 -- ---- calls. Of the references 0 to 3, 0 and 3 grant the window's one page
 
+-- a grant word: its 32 bits, and the start and the length of its range; and one for a whole page
+abbrev pub grantWord : (bits start n : ℕ) → List ℕ
+grantWord bits start n = u32Bytes bits ++ u16Bytes start ++ u16Bytes n
+
+abbrev pub pageWord : (bits : ℕ) → List ℕ
+pageWord bits = grantWord bits 0 4096
+
 abbrev pub grants : List ℕ
-grants = u32Bytes 3 ++ u32Bytes 0 ++ u32Bytes 0 ++ u32Bytes 3
+grants = pageWord 3 ++ zeros 16 ++ pageWord 3
+
+-- a table in which reference 0 grants n bytes of the page
+abbrev pub range : (start n : ℕ) → List ℕ
+range start n = grantWord 3 start n
 
 abbrev pub window : List ℕ
 window = zeros 4096
@@ -81,9 +95,16 @@ takesOn q page room = transmitTake grants window q page (zeros room)
 abbrev pub takes : List Slot → Outcome
 takes slots = takesOn (goOn 0) (ringPage (length slots) slots) 65535
 
+-- the same with another table
+abbrev pub takesBy : (table : List ℕ) → List Slot → Outcome
+takesBy table slots = transmitTake table window (goOn 0) (ringPage (length slots) slots) (zeros 65535)
+
 -- a receive call on all of these requests with a frame of so many bytes
+abbrev pub putsBy : (table : List ℕ) → List Slot → ℕ → Delivery
+putsBy table requests n = receivePut table (goOn 0) (ringPage (length requests) requests) window (zeros n)
+
 abbrev pub puts : List Slot → ℕ → Delivery
-puts requests n = receivePut grants (goOn 0) (ringPage (length requests) requests) window (zeros n)
+puts requests n = putsBy grants requests n
 
 -- ---- what is asked of a call
 

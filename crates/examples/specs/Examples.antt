@@ -3,13 +3,12 @@ use mathlib.Core.Path.{_≡_}
 use mathlib.Core.List.{List, [], _∷_, map}
 use Prim.Native.Nat.{ℕ, _+_, _*_}
 use Prim.Native.String.{String}
-use Rattle.words.specs.Word.{u32Bytes}
 use Rattle.ring.specs.Ring.{notify, posted, slotPlace}
 use Rattle.grant.specs.Grant.{granted, writable, pageOf}
 use Rattle.netif.specs.Slot.{slotWidth, slotCount, gref, offset, ident, size, gsoSize, gsoType, okay, error}
 use Rattle.netif.specs.Report.{halt, goOn, flag}
 use Rattle.packet.specs.Judge.{parts, dataReply, extraReply}
-use Rattle.examples.specs.Calls.{zeros, slotA, extraA, request, one, two, three, withExtra, withExtras, eighteen, header, ringPage, takesOn, takes, puts, answered, reported, taken, delivered, slotOf, requestOf}
+use Rattle.examples.specs.Calls.{zeros, slotA, extraA, request, oneAt, one, two, three, withExtra, withExtras, eighteen, header, ringPage, pageWord, range, takesOn, takes, takesBy, puts, putsBy, answered, reported, taken, delivered, slotOf, requestOf}
 
 -- a row: the example's name, what is computed, and what is expected
 pub record Row : Type 0 where
@@ -55,7 +54,15 @@ rows =
     -- the largest size of a slot: the part is too long for its page, and there is no cause 2
     ∷ ("total 65535 in one slot: cause 5" ∣ answered (takes (one 65535)) ⇒ 7 ∷ 5 ∷ 0 ∷ [])
     -- the examples of its other sections
-    ∷ ("grant word 0D: page 3, granted, not writable" ∣ pageOf (u32Bytes 0x0D) 0 ∷ flag (granted (u32Bytes 0x0D) 0) ∷ flag (writable (u32Bytes 0x0D) 0) ∷ [] ⇒ 3 ∷ 1 ∷ 0 ∷ [])
+    ∷ ("grant word 0D: page 3, granted, not writable" ∣ pageOf (pageWord 0x0D) 0 ∷ flag (granted (pageWord 0x0D) 0) ∷ flag (writable (pageWord 0x0D) 0) ∷ [] ⇒ 3 ∷ 1 ∷ 0 ∷ [])
+    -- ranges of a page, as request 8 has them, and a part of 60 bytes at offset 100
+    ∷ ("range 100 to 160: done" ∣ answered (takesBy (range 100 60) (oneAt 100 60)) ⇒ 0 ∷ 0 ∷ 0 ∷ [])
+    ∷ ("range 101 to 161: cause 5" ∣ answered (takesBy (range 101 60) (oneAt 100 60)) ⇒ 7 ∷ 5 ∷ 0 ∷ [])
+    ∷ ("range 100 to 159: cause 5" ∣ answered (takesBy (range 100 59) (oneAt 100 60)) ⇒ 7 ∷ 5 ∷ 0 ∷ [])
+    ∷ ("range 100 to 4096: done" ∣ answered (takesBy (range 100 3996) (oneAt 100 60)) ⇒ 0 ∷ 0 ∷ 0 ∷ [])
+    ∷ ("range 100 to 4097: cause 4" ∣ answered (takesBy (range 100 3997) (oneAt 100 60)) ⇒ 7 ∷ 4 ∷ 0 ∷ [])
+    ∷ ("receive, range 0 to 4095: spoiled" ∣ delivered (putsBy (range 0 4095) (request 9 ∷ []) 60) ⇒ 7 ∷ 1 ∷ 0 ∷ 0 ∷ [])
+    ∷ ("receive, range 1 to 4096: spoiled" ∣ delivered (putsBy (range 1 4095) (request 9 ∷ []) 60) ⇒ 7 ∷ 1 ∷ 0 ∷ 0 ∷ [])
     -- the limit, as request 1 has it
     ∷ ("18 data slots, one extra: done" ∣ answered (takes (eighteen 0)) ⇒ 0 ∷ 0 ∷ 0 ∷ [])
     ∷ ("18 data slots, four extras: slots, notify, total, gso size, gso type" ∣ reported (takes (eighteen 3)) ⇒ 22 ∷ 1 ∷ 60 ∷ 1460 ∷ 1 ∷ [])

@@ -1,8 +1,10 @@
--- What a lookup answers: the page granted, or why it may not be used.
+-- What is found by a reference: the page granted, or why it may not be used; and what the lookup then returns.
+use mathlib.Core.Path.{_≡_}
 use mathlib.Core.List.{List}
-use mathlib.Core.Bool.{cond}
-use Prim.Native.Nat.{ℕ}
-use Rattle.grant.specs.Grant.{pageOf, inRange, fitTransmit, fitReceive}
+use mathlib.Core.Bool.{true, cond}
+use Prim.Native.Nat.{ℕ, _+_, _-_, _≤_}
+use lib.ListN.{length, take, drop}
+use Rattle.grant.specs.Grant.{pageOf, rangeStart, rangeEnd, inRange, fitTransmit, fitReceive, pagePart, rangeOf}
 use Rattle.grant.specs.declared.Page.{Page}
 use Rattle.grant.specs.declared.Page.the-variants as page
 use Rattle.grant.specs.declared.Source.{Source}
@@ -22,3 +24,21 @@ module _ (table window : List ℕ) (g : ℕ) where
       cond (fitTransmit table window g)
       (cond (inRange table g offset n) (source.At (pageOf table g)) source.Outside)
       source.Unfit
+
+-- n bytes that stand from an offset of a page on are within what reference g grants: they lie between the start and the end of its
+-- range, and that in the page, and they are a part of what it covers
+pub record WithinGrant (table window : List ℕ) (g offset n : ℕ) (bytes : List ℕ) : Type 0 where
+  pub starts : rangeStart table g ≤ offset
+  pub ends : offset + n ≤ rangeEnd table g
+  pub inPage : rangeEnd table g ≤ 4096
+  pub covered : bytes ≡ take n (drop (offset - rangeStart table g) (rangeOf table window g))
+
+-- what the lookup returns: n bytes from an offset of page p of the window, within every grant by which the page was found
+pub record LookedUp (window : List ℕ) (p offset n : ℕ) (bytes : List ℕ) : Type 0 where
+  pub part : bytes ≡ pagePart window p offset n
+  pub within : (table : List ℕ) (g : ℕ) → sourceOf table window g offset n ≡ source.At p → WithinGrant table window g offset n bytes
+
+-- two windows of one length that are the same on all that the grants fit for transmit cover
+pub record CoveredAlike (table window other : List ℕ) : Type 0 where
+  pub lengths : length window ≡ length other
+  pub ranges : (g : ℕ) → fitTransmit table window g ≡ true → rangeOf table window g ≡ rangeOf table other g

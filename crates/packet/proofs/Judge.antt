@@ -50,13 +50,16 @@ module _ (table window : List ℕ) where
 
   -- ---- parts
 
-  slot-good : (k : ℕ) (s : Slot) (n : ℕ) → judgeSlot table window k s n ≡ Good → length (partOf table window s n) ≡ n
-  unfolding judgeSlot partOf
-  slot-good k s n h =
+  -- a good slot's grant is fit and has its part in range
+  pub slot-granted : (k : ℕ) (s : Slot) (n : ℕ) → judgeSlot table window k s n ≡ Good → (fitTransmit table window (gref s) ≡ true) × (inRange table (gref s) (offset s) n ≡ true)
+  unfolding judgeSlot
+  slot-granted k s n h =
       let (a, b) = orElse-good (test (not (fitTransmit table window (gref s))) 4 k) (test (not (inRange table (gref s) (offset s) n)) 5 k) h in
-      part-length table window (gref s) (offset s) n
-      (not-false _ (test-good (not (fitTransmit table window (gref s))) 4 k a))
-      (not-false _ (test-good (not (inRange table (gref s) (offset s) n)) 5 k b))
+      (not-false _ (test-good _ 4 k a), not-false _ (test-good _ 5 k b))
+
+  slot-good : (k : ℕ) (s : Slot) (n : ℕ) → judgeSlot table window k s n ≡ Good → length (partOf table window s n) ≡ n
+  unfolding partOf
+  slot-good k s n h = let (f, r) = slot-granted k s n h in part-length table window (gref s) (offset s) n r f
 
   later-good : (l : List Slot) (k : ℕ) → judgeLater table window k l ≡ Good → length (laterParts table window l) ≡ sizes l
   later-good [] k h = refl

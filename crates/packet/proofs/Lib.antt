@@ -3,3 +3,4 @@ pub mod Judge
 pub mod CauseTwo
 pub mod Joining
 pub mod Plans
+pub mod Covered

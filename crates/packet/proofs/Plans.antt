@@ -1,8 +1,7 @@
--- Judging as the code does it: a slot's verdict by what the grant lookup answers, the later data slots one by one, and what a good
+-- Judging as the code does it: a slot's verdict by the source of its part, the later data slots one by one, and what a good
 -- packet's plan comes to: its parts lie in the window, and joined they are the frame.
 use mathlib.Core.Path.{_≡_, refl, sym, ap, _∙_}
 use mathlib.Core.List.{List, [], _∷_, map}
-use mathlib.Core.Bool.{Bool, true, false, cond}
 use Prim.Native.Nat.{ℕ, zero, suc, _+_, _-_, _<_}
 use native.Mathlib.Omega.{arith}
 use native.Mathlib.Nat.{add-assoc}
@@ -14,8 +13,8 @@ use Rattle.words.proofs.Lists.{map-at}
 use borrow.Author.Tests.{ne-eqb}
 use Rattle.ring.specs.Ring.{wadd, slotAt, slotsFrom}
 use Rattle.ring.proofs.Ring.{slot-wrap, slots-at, slots-length, slots-drop}
-use Rattle.grant.specs.Grant.{inRange, fitTransmit, pageOf}
 use Rattle.grant.specs.Found.{sourceOf}
+use Rattle.grant.proofs.Grant.{found-unfit, found-outside, found-at}
 use Rattle.grant.specs.declared.Source.{Source}
 use Rattle.grant.specs.declared.Source.the-variants as source
 use Rattle.netif.specs.Slot.{Slot, gref, offset, size, checksumBlank, dataValidated}
@@ -47,41 +46,22 @@ pub gso-other : (e n t : ℕ) → (e ≡ 0 → ⊥) → (n ≡ 0 → ⊥) → (t
 gso-other zero n t h k a b = absurd (h refl)
 gso-other (suc e) n t h k a b = rw (ne-eqb n 0 k, ne-eqb t 1 a, ne-eqb t 2 b)
 
--- ---- a slot's verdict, by what the lookup answers
-
-unfit-of : (f i : Bool) (p : ℕ) → source.Unfit ≡ cond f (cond i (source.At p) source.Outside) source.Unfit → f ≡ false
-unfit-of true true p h = absurd (let z : _≡_ {A = ℕ} 0 1 = cc in omega arith)
-unfit-of true false p h = absurd (let z : _≡_ {A = ℕ} 0 1 = cc in omega arith)
-unfit-of false i p h = refl
-
-outside-of : (f i : Bool) (p : ℕ) → source.Outside ≡ cond f (cond i (source.At p) source.Outside) source.Unfit → (f ≡ true) × (i ≡ false)
-outside-of true true p h = absurd (let z : _≡_ {A = ℕ} 0 1 = cc in omega arith)
-outside-of true false p h = (refl, refl)
-outside-of false i p h = absurd (let z : _≡_ {A = ℕ} 0 1 = cc in omega arith)
-
-at-of : (f i : Bool) (p q : ℕ) → source.At q ≡ cond f (cond i (source.At p) source.Outside) source.Unfit → (f ≡ true) × (i ≡ true) × (q ≡ p)
-at-of true true p q h = (refl, refl, (cc))
-at-of true false p q h = absurd (let z : _≡_ {A = ℕ} 0 1 = cc in omega arith)
-at-of false i p q h = absurd (let z : _≡_ {A = ℕ} 0 1 = cc in omega arith)
+-- ---- a slot's verdict, by the source of its part
 
 module _ (table window : List ℕ) (k : ℕ) (s : Slot) (n : ℕ) where
   pub slot-unfit : source.Unfit ≡ sourceOf table window (gref s) (offset s) n → judgeSlot table window k s n ≡ Bad 4 k
-  unfolding sourceOf judgeSlot
-  slot-unfit h = rw (unfit-of (fitTransmit table window (gref s)) (inRange table (gref s) (offset s) n) (pageOf table (gref s)) h)
+  unfolding judgeSlot
+  slot-unfit h = rw (found-unfit table window (gref s) (offset s) n h)
 
   pub slot-outside : source.Outside ≡ sourceOf table window (gref s) (offset s) n → judgeSlot table window k s n ≡ Bad 5 k
-  unfolding sourceOf judgeSlot
-  slot-outside h =
-      let e = outside-of (fitTransmit table window (gref s)) (inRange table (gref s) (offset s) n) (pageOf table (gref s)) h in
-      rw (e .0, e .1)
+  unfolding judgeSlot
+  slot-outside h = let e = found-outside table window (gref s) (offset s) n h in rw (e .0, e .1)
 
   pub slot-at : (q : ℕ) → source.At q ≡ sourceOf table window (gref s) (offset s) n → (judgeSlot table window k s n ≡ Good) × (q ≡ slotPage table s)
-  unfolding sourceOf judgeSlot slotPage
-  slot-at q h =
-      let e = at-of (fitTransmit table window (gref s)) (inRange table (gref s) (offset s) n) (pageOf table (gref s)) q h in
-      (rw (e .0, e .1), e .2)
+  unfolding judgeSlot slotPage
+  slot-at q h = let e = found-at table window (gref s) (offset s) n q h in (rw (e .0, e .1), e .2)
 
--- the lookup of a slot as the code holds it
+-- the source of a slot as the code holds it
 pub source-of-slot : (table window : List ℕ) (s : Slot) (d : DataSlot) (n m : ℕ) → d ≡ dataOf s → n ≡ m → sourceOf table window (d .gref) (d .offset) n ≡ sourceOf table window (gref s) (offset s) m
 unfolding dataOf
 source-of-slot table window s d n m h e = rw (h, e)
@@ -110,7 +90,7 @@ module _ (table window page : List ℕ) (c extras later i : ℕ) (k : i < later)
 pub later-none : (table window page : List ℕ) (k n m : ℕ) → m ≡ 0 → judgeLater table window k (slotsFrom 12 256 page n m) ≡ Good
 later-none table window page k n m h = rw h
 
--- the turn of the loop that judges later data slot i, whose lookup answered r
+-- the turn of the loop that judges later data slot i, whose source is r
 module _ (table window page : List ℕ) (c extras later i : ℕ) (k : i < later) (sizes : List ℕ) (held : SizesOf sizes (laterAt page c extras later))
     (n : ℕ) (wrapped : n ≡ wadd c (extras + 1 + i)) (d : DataSlot) (is : d ≡ dataOf (slotAt 12 256 page n))
     (r : Source) (looked : r ≡ sourceOf table window (d .gref) (d .offset) (getD sizes (i + 1) 0)) where

@@ -12,7 +12,10 @@ pub fn copy_part(window: &[u8], page: u32, offset: u16, size: u16, frame: &mut [
     ensures { λ _. ⌜ now (frame .exit) ≡ splice (now (frame .entry)) at (pagePart (now (window .entry)) page offset size) ⌝ }
 {
     let end = at + size as usize;
-    words::copy(grant::part(window, page, offset, size), &mut frame[at..end]);
+    words::copy(
+        grant::lookup(window, page, offset, size),
+        &mut frame[at..end],
+    );
 }
 
 // Copies the part that a place of the tables names to its position in the frame buffer; the position behind it.
@@ -42,8 +45,7 @@ fn place_part(
     at + sizes[i] as usize
 }
 
-// Joins the parts that the first count places of the tables name at the front of the frame buffer. A turn copies two parts, as the
-// compiler does not unroll the loop by itself; the last of an odd number is left to the end.
+// Joins the parts that the first count places of the tables name at the front of the frame buffer.
 pub fn gather(
     window: &[u8],
     count: usize,
@@ -64,15 +66,10 @@ pub fn gather(
         now (frame .exit) ≡ splice (now (frame .entry)) 0
         (joined (now (window .entry)) (take count (now (pages .entry))) (take count (now (offsets .entry))) (take count (now (sizes .entry)))) ⌝ }
 {
-    let even = count - count % 2;
     let mut i: usize = 0;
     let mut at: usize = 0;
-    while i < even {
+    while i < count {
         at = place_part(window, i, pages, offsets, sizes, frame, at);
-        at = place_part(window, i + 1, pages, offsets, sizes, frame, at);
-        i += 2;
-    }
-    if i < count {
-        place_part(window, i, pages, offsets, sizes, frame, at);
+        i += 1;
     }
 }

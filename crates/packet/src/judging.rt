@@ -60,7 +60,8 @@ pub fn own_part(total: u16, later: u32) -> u16
     }
 }
 
-// Causes 4 and 5 of the later data slots, slot by slot. What decides an access of the window is read once and goes into the tables.
+// Causes 4 and 5 of the later data slots, slot by slot. What decides an access of the window is read once and goes into the tables,
+// which after a refusal hold anything.
 fn judge_later(
     ring: &[u8],
     first: u32,
@@ -88,7 +89,8 @@ fn judge_later(
     while i < later {
         let slot = DataSlot::at(ring, n);
         let at = (i + 1) as usize;
-        match grant::lookup(grants, window, slot.gref, slot.offset, sizes[at]) {
+        offsets[at] = slot.offset;
+        match grant::source_of(grants, window, slot.gref, slot.offset, sizes[at]) {
             Source::Unfit => {
                 return Verdict::Bad {
                     cause: 4,
@@ -103,7 +105,6 @@ fn judge_later(
             }
             Source::At(page) => {
                 pages[at] = page;
-                offsets[at] = slot.offset;
             }
         }
         i += 1;
@@ -135,7 +136,7 @@ fn judge_slots(
         (now (pages .exit)) (now (offsets .exit)) r ⌝ }
 {
     let head = o.head;
-    match grant::lookup(grants, window, head.gref, head.offset, sizes[0]) {
+    match grant::source_of(grants, window, head.gref, head.offset, sizes[0]) {
         Source::Unfit => Verdict::Bad { cause: 4, place: 0 },
         Source::Outside => Verdict::Bad { cause: 5, place: 0 },
         Source::At(page) => {

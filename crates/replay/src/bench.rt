@@ -15,6 +15,11 @@ const RSP_EVENT: usize = 12;
 
 const PAGES: u32 = 18;
 
+// A grant word's bytes, and where in it the length of its range stands.
+const GRANT_WORD: usize = 8;
+
+const RANGE_LENGTH: usize = 6;
+
 // A page without slots: so many are posted from a counter on, and each side asks for an event at the next.
 fn ring_page(consumed: u32, posted: u32) -> [u8; 4096] {
     let mut page = [0u8; 4096];
@@ -72,14 +77,16 @@ fn put_extra(page: &mut [u8; 4096], kind: u8) {
     page[at + 4] = 1;
 }
 
-// A table of 18 grants: reference g grants page g.
-fn grant_table() -> [u8; 72]
-    ensures { λ r. ⌜ 72 ≡ length r ⌝ }
+// A table of 18 grants: reference g grants the whole of page g.
+fn grant_table() -> [u8; 144]
+    ensures { λ r. ⌜ 144 ≡ length r ⌝ }
 {
-    let mut grants = [0u8; 72];
+    let mut grants = [0u8; 144];
     let mut g: u32 = 0;
     while g < PAGES {
-        words::put_u32(&mut grants, 4 * (g as usize), 4 * g + 3);
+        let at = GRANT_WORD * (g as usize);
+        words::put_u32(&mut grants, at, 4 * g + 3);
+        words::put_u16(&mut grants, at + RANGE_LENGTH, 4096);
         g += 1;
     }
     grants

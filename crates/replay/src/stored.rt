@@ -55,7 +55,7 @@ fn room() -> [u8; 1048576]
 
 // The same with the grant table and the window that are stored there.
 pub fn replay(folder: &[u8]) {
-    let mut grants = io::buffer();
+    let mut grants = io::large_buffer();
     let mut window = room();
     let g = load(folder, b"/grants.bin", &mut grants);
     let w = load(folder, b"/window.bin", &mut window);

@@ -2,18 +2,17 @@
 -- one's plan lies in the window and is its frame, and replies leave rsp_event, by which notify goes.
 use mathlib.Core.Path.{_≡_, refl, sym, ap, _∙_}
 use mathlib.Core.List.{List, [], _∷_, _++_, map}
-use mathlib.Core.Bool.{Bool, false, not}
+use mathlib.Core.Bool.{Bool, false}
 use Prim.Native.Nat.{ℕ, zero, suc, _+_, _-_, _*_, _≤_, _<_}
 use native.Mathlib.Omega.{arith}
 use lib.ListN.{length, take, drop, getD, set, length-take, length-append, length-map}
 use lib.Seq.{getD-take, take-at}
-use borrow.Author.Tests.{not-false, lt-ltb, le-ltb}
+use borrow.Author.Tests.{lt-ltb, le-ltb}
 use Rattle.words.specs.Word.{splice, bit}
 use Rattle.words.proofs.Lists.{map-at}
 use Rattle.ring.specs.Ring.{wadd, notify, slotsFrom}
 use Rattle.ring.proofs.Ring.{slots-length, slots-take}
 use Rattle.ring.proofs.Replied.{notify-replied, notify-published}
-use Rattle.grant.specs.Grant.{inRange, fitTransmit}
 use Rattle.grant.proofs.Grant.{fit-page, range-page}
 use Rattle.netif.specs.Slot.{Slot, gref, offset, size, okay, error}
 use Rattle.netif.specs.Packet.{firstOf, laterOf, sizes}
@@ -27,7 +26,6 @@ use Rattle.netif.specs.declared.Queue.{Queue}
 use Rattle.netif.specs.declared.Answer.{Answer}
 use Rattle.netif.specs.declared.Answer.the-variants.{Done, Spoiled}
 use Rattle.netif.specs.declared.Verdict.the-variants.{Good, Bad}
-use Rattle.netif.specs.Verdict.{_orElse_, test}
 use Rattle.netif.proofs.Within.{within-datas}
 use Rattle.netif.proofs.Grammar.{packet-length, divide-whole}
 use Rattle.packet.specs.Judge.{totalOf, ownPart, parts, judgeSlot, judgeLater, judge, partOf, laterParts, frameOf, repliesOf}
@@ -36,7 +34,7 @@ use Rattle.packet.specs.Plan.{joined, InWindow, datasOf, slotPage}
 use Rattle.packet.specs.Stages.{packetAt, Ready, HoldsParts}
 use Rattle.transmit.specs.Code.{ConsumedAs, Gives}
 use Rattle.transmit.specs.declared.Consumed.{Consumed}
-use Rattle.packet.proofs.Judge.{orElse-good, test-good, good-parts}
+use Rattle.packet.proofs.Judge.{orElse-good, slot-granted, good-parts}
 use Rattle.transmit.proofs.Cases.{to-length, replies-short}
 use Rattle.packet.proofs.Plans.{total-of, sum-of, blank-of, validated-of, gso-size-of, gso-type-of}
 
@@ -120,12 +118,10 @@ module _ (page : List ℕ) (c n : ℕ) (few : n ≤ 256) (d e : ℕ) (cut : divi
 -- ---- a good packet's plan
 
 pub slot-inside : (table window : List ℕ) (k : ℕ) (s : Slot) (n : ℕ) → judgeSlot table window k s n ≡ Good → (4096 * slotPage table s + 4096 ≤ length window) × (offset s + n ≤ 4096)
-unfolding judgeSlot slotPage
+unfolding slotPage
 slot-inside table window k s n h =
-    let (a, b) = orElse-good (test (not (fitTransmit table window (gref s))) 4 k) (test (not (inRange table (gref s) (offset s) n)) 5 k) h in (
-      fit-page table window (gref s) (not-false _ (test-good (not (fitTransmit table window (gref s))) 4 k a)),
-      range-page table window (gref s) (offset s) n (not-false _ (test-good (not (inRange table (gref s) (offset s) n)) 5 k b)),
-    )
+    let (f, r) = slot-granted table window k s n h in
+    (fit-page table window (gref s) f, range-page table window (gref s) (offset s) n r f)
 
 later-inside : (table window : List ℕ) (l : List Slot) (k : ℕ) → judgeLater table window k l ≡ Good → (j : ℕ) → j < length l
     → (4096 * slotPage table (getD l j []) + 4096 ≤ length window) × (offset (getD l j []) + size (getD l j []) ≤ 4096)

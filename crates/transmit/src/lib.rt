@@ -209,7 +209,7 @@ fn settle_alone(
     let head = DataSlot::at(ring, queue.consumed);
     match packet::judging::judge_sizes(head.size, 0) {
         Verdict::Bad { cause, place } => refuse(queue, outline_of(head), cause, place, ring),
-        Verdict::Good => match grant::lookup(grants, window, head.gref, head.offset, head.size) {
+        Verdict::Good => match grant::source_of(grants, window, head.gref, head.offset, head.size) {
             Source::Unfit => refuse(queue, outline_of(head), 4, 0, ring),
             Source::Outside => refuse(queue, outline_of(head), 5, 0, ring),
             Source::At(page) => accept_alone(queue, head, page, window, ring, frame),

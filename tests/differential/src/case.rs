@@ -1,6 +1,7 @@
 //! A case: what is lent to one call. An answer: what the call gave back and left.
 
 use reference::calls::{receive_put, transmit_take, Ring, Words};
+use reference::grants::{grant, WORD_BYTES};
 use reference::ring::{posted, slots, PAGE_BYTES, RING_SLOTS};
 use reference::slots::{RECEIVE_WIDTH, TRANSMIT_WIDTH};
 use std::fmt;
@@ -110,8 +111,12 @@ impl fmt::Display for Case {
             writeln!(f, "    {n:3}: {slot:02x?}")?;
         }
         writeln!(f, "  grant words:")?;
-        for (g, word) in grants.chunks(4).enumerate().take(SHOWN) {
-            writeln!(f, "    {g:3}: {word:02x?}")?;
+        for (g, word) in grants.chunks(WORD_BYTES as usize).enumerate().take(SHOWN) {
+            write!(f, "    {g:3}: {word:02x?}")?;
+            match grant(grants, g as u64) {
+                Some(grant) => writeln!(f, " start {} length {}", grant.range.start, grant.range.length)?,
+                None => writeln!(f, " cut short")?,
+            }
         }
         Ok(())
     }

@@ -3,7 +3,7 @@
 use crate::case::{Answer, Case};
 use crate::facts::Facts;
 use reference::calls::Ring;
-use reference::grants::{page_at, Access};
+use reference::grants::{fit_grant, Access, Range, WORD_BYTES};
 use reference::report::*;
 use reference::slots::{data, extra};
 use reference::words::number;
@@ -51,23 +51,31 @@ const COMMON: &[Boundary] = &[
     ("rsp_event one past the old counter", |f| f.event_at(1)),
     ("rsp_event at the new counter", |f| f.event_at(f.slots())),
     ("rsp_event one past the new counter", |f| f.event_at(f.slots() + 1)),
-    ("grant table with a spare tail", |f| f.slots() > 0 && f.before.grants.len() % 4 != 0),
+    ("grant table with a spare tail", |f| f.slots() > 0 && f.before.grants.len() % 8 != 0),
     ("window with a spare tail", |f| f.slots() > 0 && f.before.window.len() % 4096 != 0),
+    ("done: last word of the table", |f| {
+        f.used().iter().any(|gref| WORD_BYTES * (gref + 1) == f.before.grants.len() as u64)
+    }),
     ("unfit: grant table of 0 bytes", |f| f.unfit().is_some() && f.before.grants.is_empty()),
     ("unfit: window of 0 bytes", |f| f.unfit().is_some() && f.before.window.is_empty()),
-    ("unfit: no grant word", |f| f.unfit().is_some() && f.unfit_word().is_none()),
-    ("unfit: word in the spare tail", |f| {
-        let length = f.before.grants.len() as u64;
-        f.unfit().is_some_and(|gref| 4 * gref < length && length < 4 * gref + 4)
-    }),
-    ("unfit: word past 2^32 bytes", |f| f.unfit() >= Some(1 << 30)),
-    ("unfit: not granted", |f| f.unfit_word().is_some() && f.unfit_page().is_none()),
+    ("unfit: no grant word", |f| f.cut_word().is_some()),
+    ("unfit: word in the spare tail", |f| f.cut_word() >= Some(1)),
+    ("unfit: word without its range", |f| f.cut_word() == Some(4)),
+    ("unfit: word without its last byte", |f| f.cut_word() == Some(7)),
+    ("unfit: word up to 2^32 bytes", |f| f.unfit() == Some((1 << 29) - 1)),
+    ("unfit: word past 2^32 bytes", |f| f.unfit() >= Some(1 << 29)),
+    ("unfit: not granted", |f| f.unfit_grant().is_some_and(|grant| !grant.granted)),
     ("unfit: page past the window", |f| f.unfit_page() >= Some(f.before.window.len() as u64)),
     ("unfit: page in the spare tail", |f| {
         let length = f.before.window.len() as u64;
         f.unfit_page().is_some_and(|at| at < length && length < at + 4096)
     }),
     ("unfit: page past 2^32 bytes", |f| f.unfit_page() >= Some(1 << 32)),
+    ("unfit: start plus length 4097", |f| f.unfit_range().is_some_and(|r| r.end() == 4097)),
+    ("unfit: start 4097, length 0", |f| f.unfit_range() == Some(Range { start: 4097, length: 0 })),
+    ("unfit: start plus length above 65535, in 16 bits at most 4096", |f| {
+        f.unfit_range().is_some_and(|r| r.end() > 65_535 && r.end() % 65_536 <= 4096)
+    }),
 ];
 
 /// Boundaries of the transmit call.
@@ -130,20 +138,58 @@ const TRANSMIT: &[Boundary] = &[
     ("cause 4: slot behind extras", |f| {
         f.cause() == 4 && f.words[2] > 0 && f.packet_is(SPOILED, |p| p.extras > 0)
     }),
-    ("done: offset plus part 4096", |f| {
-        f.packet_is(DONE, |p| p.pieces.iter().any(|x| x.offset + x.part == 4096))
+    ("cause 4: part in a range past the page", |f| {
+        f.unfit_range().zip(f.concerned()).is_some_and(|(r, x)| r.holds(x.offset, x.part))
     }),
-    ("done: offset 4096, no bytes", |f| {
-        f.packet_is(DONE, |p| p.pieces.iter().any(|x| x.offset == 4096 && x.part == 0))
+    ("cause 4: part outside a range past the page", |f| {
+        f.unfit_range().zip(f.concerned()).is_some_and(|(r, x)| !r.holds(x.offset, x.part))
     }),
+    ("done: offset plus part 4096", |f| f.done_with(|x, _| x.offset + x.part == 4096)),
+    ("done: offset 4096, no bytes", |f| f.done_with(|x, _| x.offset == 4096 && x.part == 0)),
+    ("done: part from a start above 0", |f| {
+        f.done_with(|x, r| x.part > 0 && x.offset == r.start && r.start > 0)
+    }),
+    ("done: part up to an end below 4096", |f| {
+        f.done_with(|x, r| x.part > 0 && x.offset + x.part == r.end() && r.end() < 4096)
+    }),
+    ("done: part of a whole range, start above 0, end below 4096", |f| {
+        f.done_with(|x, r| x.part > 0 && x.part == r.length && r.start > 0 && r.end() < 4096)
+    }),
+    ("done: start above 0, start plus length 4096", |f| f.done_with(|_, r| r.start > 0 && r.end() == 4096)),
+    ("done: no bytes at a start above 0", |f| {
+        f.done_with(|x, r| x.part == 0 && x.offset == r.start && r.start > 0 && r.length > 0)
+    }),
+    ("done: no bytes at an end below 4096", |f| {
+        f.done_with(|x, r| x.part == 0 && x.offset == r.end() && r.end() < 4096 && r.length > 0)
+    }),
+    ("done: range of 0 bytes", |f| f.done_with(|_, r| r.length == 0)),
+    ("done: range of 0 bytes at the page's end", |f| f.done_with(|_, r| r.start == 4096)),
     ("cause 5: offset plus part 4097", |f| {
-        f.cause() == 5 && f.concerned().is_some_and(|x| x.offset + x.part == 4097)
+        f.outside(|x, r| x.offset + x.part == 4097 && x.part > 0 && r.end() == 4096)
     }),
     ("cause 5: offset 4097, no bytes", |f| {
-        f.cause() == 5 && f.concerned().is_some_and(|x| x.offset == 4097 && x.part == 0)
+        f.outside(|x, r| x.offset == 4097 && x.part == 0 && r.end() == 4096)
     }),
-    ("cause 5: offset plus part above 65535", |f| {
-        f.cause() == 5 && f.concerned().is_some_and(|x| x.offset + x.part > 65_535)
+    ("cause 5: offset plus part above 65535", |f| f.outside(|x, _| x.offset + x.part > 65_535)),
+    ("cause 5: offset one below the start", |f| {
+        f.outside(|x, r| x.offset == r.start - 1 && x.part > 0 && x.offset + x.part <= r.end())
+    }),
+    ("cause 5: offset one below the start, no bytes", |f| {
+        f.outside(|x, r| x.offset == r.start - 1 && x.part == 0 && r.length > 0)
+    }),
+    ("cause 5: one byte past an end below 4096", |f| {
+        f.outside(|x, r| {
+            x.offset >= r.start && x.offset + x.part == r.end() + 1 && x.part > 0 && r.end() < 4096
+        })
+    }),
+    ("cause 5: offset one past an end below 4096, no bytes", |f| {
+        f.outside(|x, r| x.offset == r.end() + 1 && x.part == 0 && r.end() < 4096 && r.length > 0)
+    }),
+    ("cause 5: offset one below a range of 0 bytes, no bytes", |f| {
+        f.outside(|x, r| x.offset == r.start - 1 && x.part == 0 && r.length == 0)
+    }),
+    ("cause 5: offset one past a range of 0 bytes, no bytes", |f| {
+        f.outside(|x, r| x.offset == r.start + 1 && x.part == 0 && r.length == 0)
     }),
     ("cause 6: gso size 0", |f| {
         f.cause() == 6 && f.packet_is(SPOILED, |p| p.last_extra.is_some_and(|x| x.gso_size == 0))
@@ -180,17 +226,26 @@ const RECEIVE: &[Boundary] = &[
     ("done: 65535 bytes", |f| f.answer() == DONE && f.words[5] == 65_535),
     ("done: no request left", |f| f.answer() == DONE && f.posted == Some(f.slots().into())),
     ("done: one page named twice", |f| {
-        let page = |&gref: &u64| page_at(&f.before.grants, &f.before.window, gref, Access::Write);
-        let pages: HashSet<Option<usize>> = f.requests.iter().map(page).collect();
+        let page = |&gref: &u64| {
+            fit_grant(&f.before.grants, &f.before.window, gref, Access::Write).map(|grant| grant.page_at)
+        };
+        let pages: HashSet<Option<u64>> = f.requests.iter().map(page).collect();
         f.answer() == DONE && pages.len() < f.requests.len()
     }),
     ("no buffers: one request too few", |f| {
         let needed = f.before.frame.len().div_ceil(4096) as u64;
         f.answer() == NO_BUFFERS && f.posted == Some(needed - 1)
     }),
-    ("unfit: read-only", |f| {
-        let page = |gref| page_at(&f.before.grants, &f.before.window, gref, Access::Read);
-        f.unfit().is_some_and(|gref| page(gref).is_some())
+    ("unfit: read-only", |f| f.is_read_only()),
+    ("unfit: start 0, length 4095", |f| f.unfit_range() == Some(Range { start: 0, length: 4095 })),
+    ("unfit: start 0, length 4097", |f| f.unfit_range() == Some(Range { start: 0, length: 4097 })),
+    ("unfit: start 1, length 4095", |f| f.unfit_range() == Some(Range { start: 1, length: 4095 })),
+    ("unfit: start 1, length 4096", |f| f.unfit_range() == Some(Range { start: 1, length: 4096 })),
+    ("unfit: range of 0 bytes", |f| f.unfit_range().is_some_and(|r| r.length == 0)),
+    ("unfit: part of a page with room for the piece", |f| {
+        let before = 4096 * f.words[2] as usize;
+        let piece = f.before.frame.len().saturating_sub(before).min(4096);
+        f.unfit_range().is_some_and(|r| r.end() <= 4096 && r.holds(0, piece as i64))
     }),
     ("unfit: the last of several", |f| f.cause() == 4 && f.words[2] > 0 && f.words[2] + 1 == f.slots()),
 ];

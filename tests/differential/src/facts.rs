@@ -3,15 +3,18 @@
 use crate::case::{Answer, Case, State};
 use reference::calls::{Ring, Words};
 use reference::grammar::{begins_packet, front, Front};
-use reference::report::{MISSHAPEN, SPOILED, WAITING};
+use reference::grants::{grant, Access, Grant, Range, WHOLE_PAGE, WORD_BYTES};
+use reference::report::{DONE, MISSHAPEN, SPOILED, WAITING};
 use reference::ring::{posted, slots, PAGE_BYTES, RING_SLOTS};
 use reference::slots::{data, extra, request, Data, Extra, Slot};
 use reference::transmit::{later_sizes, pieces, read, Piece};
-use reference::words::{bit, number};
+use reference::words::number;
 
 pub struct Facts<'a> {
     pub before: &'a State,
     pub words: Words,
+    /// What the call wants of a grant.
+    access: Access,
     /// Slots posted, where the ring page has 4,096 bytes.
     pub posted: Option<u64>,
     /// The slots posted on a transmit ring.
@@ -53,8 +56,9 @@ impl Facts<'_> {
         let consumed = before.consumed.into();
         let posted = (page.len() == PAGE_BYTES).then(|| posted(page, consumed));
         let words = answer.words;
+        let access = if case.ring == Ring::Transmit { Access::Read } else { Access::Write };
         let (run, requests) = (Vec::new(), Vec::new());
-        let mut facts = Facts { before, words, posted, run, packet: None, fault: None, requests };
+        let mut facts = Facts { before, words, access, posted, run, packet: None, fault: None, requests };
         match (case.ring, posted) {
             (Ring::Transmit, Some(posted @ 1..=RING_SLOTS)) => {
                 facts.run = slots(page, consumed, posted);
@@ -104,15 +108,58 @@ impl Facts<'_> {
         gref.filter(|_| self.answer() == SPOILED && self.cause() == 4)
     }
 
-    /// The grant word of the reference that cause 4 concerns, if it has one.
-    pub fn unfit_word(&self) -> Option<u64> {
-        let at = 4 * self.unfit()?;
-        (at + 4 <= self.before.grants.len() as u64).then(|| number(&self.before.grants, at as usize, 4))
+    /// How many bytes the table has of the word that cause 4 concerns, where it has not all.
+    pub fn cut_word(&self) -> Option<u64> {
+        let length = self.before.grants.len() as u64;
+        let bytes = length.saturating_sub(WORD_BYTES * self.unfit()?);
+        (bytes < WORD_BYTES).then_some(bytes)
+    }
+
+    /// The grant that cause 4 concerns, if it has a word.
+    pub fn unfit_grant(&self) -> Option<Grant> {
+        grant(&self.before.grants, self.unfit()?)
     }
 
     /// The first byte of the page that cause 4 concerns, if it is granted.
     pub fn unfit_page(&self) -> Option<u64> {
-        self.unfit_word().filter(|&word| bit(word, 0)).map(|word| word / 4 * 4096)
+        self.unfit_grant().filter(|grant| grant.granted).map(|grant| grant.page_at)
+    }
+
+    /// The range that cause 4 concerns, where it is all that makes the grant unfit.
+    pub fn unfit_range(&self) -> Option<Range> {
+        let grant = self.unfit_grant()?;
+        self.is_fit(Grant { range: WHOLE_PAGE, ..grant }).then_some(grant.range)
+    }
+
+    /// Whether the grant that cause 4 concerns is unfit only because it is not writable.
+    pub fn is_read_only(&self) -> bool {
+        self.unfit_grant().is_some_and(|grant| self.is_fit(Grant { writable: true, ..grant }))
+    }
+
+    fn is_fit(&self, grant: Grant) -> bool {
+        grant.is_fit(&self.before.window, self.access)
+    }
+
+    /// The references that a done call went by.
+    pub fn used(&self) -> Vec<u64> {
+        let pieces = self.packet.iter().flat_map(|packet| &packet.pieces).map(|piece| piece.gref);
+        let used = pieces.chain(self.requests.iter().copied());
+        used.filter(|_| self.answer() == DONE).collect()
+    }
+
+    /// Whether a packet is done, and something holds of one of its parts and the range that it is in.
+    pub fn done_with(&self, holds: fn(&Piece, &Range) -> bool) -> bool {
+        let mut pieces = self.packet.iter().flat_map(|packet| &packet.pieces);
+        self.answer() == DONE && pieces.any(|piece| self.holds(piece, holds))
+    }
+
+    /// Whether cause 5 is given, and something holds of the part and the range that it is not in.
+    pub fn outside(&self, holds: fn(&Piece, &Range) -> bool) -> bool {
+        self.cause() == 5 && self.concerned().is_some_and(|piece| self.holds(piece, holds))
+    }
+
+    fn holds(&self, piece: &Piece, holds: fn(&Piece, &Range) -> bool) -> bool {
+        grant(&self.before.grants, piece.gref).is_some_and(|grant| holds(piece, &grant.range))
     }
 
     /// Whether the packet was settled and answered so, and something holds of it.

@@ -11,6 +11,7 @@ use crate::packet::{Packet, Shape};
 use crate::random::Random;
 use reference::calls::Ring;
 use reference::grammar::LIMIT;
+use reference::grants::whole_page_bytes;
 use reference::slots::Slot;
 
 /// The longest run of which every combination of slots is tried.
@@ -49,7 +50,7 @@ fn short_run(number: u32, length: u32) -> Case {
         put_u16(&mut page, at + 8, 100 + place as u16);
         put_u16(&mut page, at + 10, if place == 0 { 60 } else { 1 });
     }
-    let grants = 3_u32.to_le_bytes().repeat(512);
+    let grants = whole_page_bytes(3).repeat(512);
     let before =
         State { consumed: 0, halted: 0, page, grants, window: vec![0x77; 4096], frame: vec![0x11; 64] };
     Case { ring: Ring::Transmit, before }

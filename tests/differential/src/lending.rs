@@ -49,7 +49,7 @@ impl Lending {
         if random.one_in(2) {
             self.guest.window.truncate(random.pick(&[0, 0, 1, 4095]));
         } else {
-            self.guest.grants.truncate(random.pick(&[0, 0, 1, 3, 4]));
+            self.guest.grants.truncate(random.pick(&[0, 0, 1, 4, 7, 8]));
         }
     }
 

@@ -3,6 +3,7 @@
 use crate::bytes::{put_u16, put_u32};
 use crate::guest::Guest;
 use crate::random::Random;
+use reference::grants::Range;
 use reference::slots::{data, Slot};
 
 /// Bits of a data slot's flags, at byte 6.
@@ -73,10 +74,12 @@ impl Packet {
             put_u16(&mut self.slots[place], SIZE, size);
         }
         for place in self.data_places() {
-            let room = (4096 - self.part(place)).max(0) as usize;
-            let offset = random.pick(&[0, room, room, random.between(0, room)]);
+            let gref = guest.readable(random, self.part(place));
+            put_u32(&mut self.slots[place], 0, gref);
+            let start = guest.range(gref).start as usize;
+            let last = self.last_offset(place, guest);
+            let offset = random.pick(&[start, last, last, random.between(start, last)]);
             put_u16(&mut self.slots[place], OFFSET, offset as u16);
-            put_u32(&mut self.slots[place], 0, guest.readable(random));
         }
         if self.extras > 0 {
             let size = random.pick(&[1, 536, 1460, 65_535]);
@@ -107,6 +110,16 @@ impl Packet {
     fn part(&self, place: usize) -> i64 {
         let others = if place == 0 { self.later_sizes() } else { 0 };
         self.size(place) - others
+    }
+
+    /// The range of the grant that a data slot names.
+    fn range(&self, place: usize, guest: &Guest) -> Range {
+        guest.range(data(&self.slots[place]).gref as u32)
+    }
+
+    /// The last offset at which a data slot's part ends in the range of its grant.
+    fn last_offset(&self, place: usize, guest: &Guest) -> usize {
+        (self.range(place, guest).end() - self.part(place)).max(0) as usize
     }
 
     fn set_flag(&mut self, place: usize, flag: u16, on: bool) {
@@ -169,14 +182,21 @@ impl Packet {
     /// Cause 4: a reference that is not fit.
     pub fn make_grant_unfit(&mut self, random: &Random, guest: &Guest) {
         let place = random.pick(&self.data_places());
-        put_u32(&mut self.slots[place], 0, random.pick(&guest.unfit));
+        put_u32(&mut self.slots[place], 0, guest.unreadable(random));
     }
 
-    /// Cause 5: an offset that leaves too little of the page.
-    pub fn make_offset_too_large(&mut self, random: &Random) {
-        let place = random.pick(&self.data_places());
-        let room = (4096 - self.part(place)).clamp(0, 4096) as usize;
-        let offset = random.pick(&[room + 1, room + 1, 65_535, random.between(room + 1, 65_535)]);
+    /// Cause 5: an offset before the range of the grant, or one that leaves too little of it.
+    pub fn make_offset_bad(&mut self, random: &Random, guest: &Guest) {
+        let places = self.data_places();
+        let empty: Vec<usize> = places.iter().copied().filter(|&place| self.part(place) == 0).collect();
+        let place = random.pick(if empty.is_empty() || random.one_in(2) { &places } else { &empty });
+        let start = self.range(place, guest).start as usize;
+        let offset = if start > 0 && random.one_in(2) {
+            random.pick(&[start - 1, start - 1, start - 1, random.below(start)])
+        } else {
+            let past = (self.last_offset(place, guest) + 1).min(65_535);
+            random.pick(&[past, past, 65_535, random.between(past, 65_535)])
+        };
         put_u16(&mut self.slots[place], OFFSET, offset as u16);
     }
 
@@ -215,12 +235,15 @@ impl Packet {
 
 fn noise_slot(random: &Random, guest: &Guest) -> Slot {
     let mut slot: Slot = random.bytes(12).try_into().expect("12 bytes");
-    put_u32(&mut slot, 0, guest.readable(random));
+    let gref = guest.readable(random, 0);
+    put_u32(&mut slot, 0, gref);
     if random.one_in(2) {
         slot[0] = random.pick(&[0, 1, 1, 1, 2]);
         slot[1] = random.below(4) as u8;
     }
-    put_u16(&mut slot, OFFSET, random.pick(&[0, 1, 4095, 4096]));
+    let Range { start, length } = guest.range(gref);
+    let offset = start + random.pick(&[0, 1, length - 1, length]);
+    put_u16(&mut slot, OFFSET, offset.max(0) as u16);
     put_u16(&mut slot, SIZE, random.pick(&[0, 1, 13, 14, 15, 60]));
     slot
 }

@@ -7,6 +7,7 @@ use crate::library::{call, refuse_reserved, Parameters};
 use crate::random::Random;
 use reference::calls::Ring;
 use reference::grammar::{DATA_LIMIT, LIMIT};
+use reference::grants::word_bytes;
 use reference::report::{DONE, NAMES, SPOILED};
 use reference::ring::{slot_at, PAGE_BYTES};
 use reference::slots::{RECEIVE_WIDTH, TRANSMIT_WIDTH};
@@ -31,8 +32,29 @@ const GRANTS_BYTES: usize = 4096;
 const WINDOW_BYTES: usize = 4 * 4096;
 /// Frame buffers: one for the largest frames, and one that is often too short.
 const FRAME_BYTES: [usize; 2] = [16 * 4096, 4096];
-/// Grant words: pages 0 to 3 of the window, one past it, the last there is, one not granted, one read only.
-const GRANT_WORDS: [u32; 8] = [0x03, 0x07, 0x0B, 0x0F, 0x13, 0xFFFF_FFFF, 0x06, 0x09];
+/// Grant words with start and length: the whole of pages 0 to 3 of the window, of one past it, of the last there is,
+/// of one not granted and of one read only; then parts of pages, and ranges that reach past theirs.
+const GRANT_WORDS: [(u32, u16, u16); 16] = [
+    (0x03, 0, 4096),
+    (0x07, 0, 4096),
+    (0x0B, 0, 4096),
+    (0x0F, 0, 4096),
+    (0x13, 0, 4096),
+    (0xFFFF_FFFF, 0, 4096),
+    (0x06, 0, 4096),
+    (0x09, 0, 4096),
+    (0x0F, 0, 4040),
+    (0x0F, 200, 3840),
+    (0x0F, 1, 4095),
+    (0x0F, 4096, 0),
+    (0x0F, 1, 4096),
+    (0x0F, 0, 65_535),
+    (0x0F, 65_535, 1),
+    (0x0F, 65_535, 65_535),
+];
+/// References that take what the host posts: those fit for receive, and those that share bytes 200 to 4039.
+const FOR_RECEIVE: [u32; 4] = [0, 1, 2, 3];
+const FOR_TRANSMIT: [u32; 6] = [0, 1, 2, 3, 8, 9];
 
 /// What the host's, the guest's and the watching thread share.
 struct Race {
@@ -54,7 +76,8 @@ unsafe impl Sync for Race {}
 /// Races on a ring for so long, and says how it went.
 pub fn race(ring: Ring, seed: u64, time: Duration) -> Result<String, String> {
     let random = Random::new(seed, 0);
-    let grants = GRANT_WORDS.map(u32::to_le_bytes).concat().repeat(GRANTS_BYTES / 32);
+    let words = GRANT_WORDS.map(|(word, start, length)| word_bytes(word, start, length)).concat();
+    let grants = words.repeat(GRANTS_BYTES / words.len());
     let window = random.bytes(WINDOW_BYTES);
     let mut race = Race {
         ring,
@@ -132,16 +155,15 @@ impl Race {
         let size = random.pick(&[60, 1000, 3640]);
         for k in 0..RACED_SLOTS {
             let n = u64::from(consumed) + k as u64;
-            let gref = random.below(4) as u32;
             match self.ring {
                 Ring::Transmit => {
                     let at = slot_at(TRANSMIT_WIDTH, n);
-                    self.store_u32(at, gref);
-                    self.store(at + 4, random.below(400) as u16);
+                    self.store_u32(at, random.pick(&FOR_TRANSMIT));
+                    self.store(at + 4, random.between(200, 400) as u16);
                     self.store(at + 6, if k + 1 < slots { 4 } else { 0 });
                     self.store(at + 10, if k == 0 { size * slots as u16 } else { size });
                 }
-                Ring::Receive => self.store_u32(slot_at(RECEIVE_WIDTH, n) + 4, gref),
+                Ring::Receive => self.store_u32(slot_at(RECEIVE_WIDTH, n) + 4, random.pick(&FOR_RECEIVE)),
             }
         }
         self.store_u32(0, consumed.wrapping_add(RACED_SLOTS as u32));
@@ -186,7 +208,7 @@ impl Race {
     fn rewrite_transmit_slot(&self, random: &Random, at: usize) {
         match random.below(5) {
             0 => self.rewrite_reference(random, at),
-            1 => self.store(at + 4, random.pick(&[0, 0, 1, 400, 4000, 4095, 4096, 65_535])),
+            1 => self.store(at + 4, random.pick(&[0, 0, 1, 199, 200, 400, 401, 4000, 4095, 4096, 65_535])),
             2 => self.store(at + 6, random.pick(&[0, 0, 4, 4, 8, 12])),
             3 => self.store(at + 10, random.pick(&[0, 1, 13, 14, 60, 1000, 3640, 4096, 65_520, 65_535])),
             _ => {
@@ -198,7 +220,9 @@ impl Race {
     }
 
     fn rewrite_reference(&self, random: &Random, at: usize) {
-        self.store_u32(at, random.pick(&[0, 1, 2, 3, 0, 1, 2, 3, 4, 5, 6, 7, 1023, 1024, u32::MAX]));
+        let fit = random.pick(&FOR_RECEIVE);
+        let any = random.below(GRANT_WORDS.len()) as u32;
+        self.store_u32(at, random.pick(&[fit, fit, fit, any, any, any, 511, 512, 0x2000_0000, u32::MAX]));
     }
 
     /// Fails the test, by ending the process, when a call does not end.

@@ -18,7 +18,7 @@ enum Aim {
     GrantUnfit,
 }
 
-const AIMS: [Aim; 9] = [
+const AIMS: [Aim; 10] = [
     Aim::Done,
     Aim::Done,
     Aim::Refused(Refusal::BadPage),
@@ -26,6 +26,7 @@ const AIMS: [Aim; 9] = [
     Aim::Refused(Refusal::Overflow),
     Aim::BadLength,
     Aim::NoBuffers,
+    Aim::GrantUnfit,
     Aim::GrantUnfit,
     Aim::GrantUnfit,
 ];

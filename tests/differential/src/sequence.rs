@@ -196,7 +196,7 @@ fn any_packet(random: &Random, guest: &Guest) -> Packet {
         0 => packet.make_short(random),
         1 => packet.make_sum_too_large(random),
         2 => packet.make_grant_unfit(random, guest),
-        3 => packet.make_offset_too_large(random),
+        3 => packet.make_offset_bad(random, guest),
         4 => packet.make_gso_bad(random),
         _ => {}
     }

@@ -20,13 +20,13 @@ enum Aim {
     Short,
     SumTooLarge,
     GrantUnfit,
-    OffsetTooLarge,
+    OffsetBad,
     GsoBad,
     NoRoom,
     Noise,
 }
 
-const AIMS: [Aim; 16] = [
+const AIMS: [Aim; 18] = [
     Aim::Done,
     Aim::Done,
     Aim::Refused(Refusal::BadPage),
@@ -39,7 +39,9 @@ const AIMS: [Aim; 16] = [
     Aim::Short,
     Aim::SumTooLarge,
     Aim::GrantUnfit,
-    Aim::OffsetTooLarge,
+    Aim::GrantUnfit,
+    Aim::OffsetBad,
+    Aim::OffsetBad,
     Aim::GsoBad,
     Aim::NoRoom,
     Aim::Noise,
@@ -119,7 +121,7 @@ impl Draft {
             Aim::Short => self.packet.make_short(random),
             Aim::SumTooLarge => self.packet.make_sum_too_large(random),
             Aim::GrantUnfit => self.packet.make_grant_unfit(random, &self.lending.guest),
-            Aim::OffsetTooLarge => self.packet.make_offset_too_large(random),
+            Aim::OffsetBad => self.packet.make_offset_bad(random, &self.lending.guest),
             Aim::GsoBad => self.packet.make_gso_bad(random),
             Aim::NoRoom => {
                 let below = self.packet.total().saturating_sub(1);
@@ -145,6 +147,7 @@ impl Draft {
     fn cut(&mut self, random: &Random) {
         self.packet.make_cuttable();
         let most = (self.packet.slots.len() - 1).max(1);
-        self.lending.posted = random.pick(&[1, most, random.between(1, most)]) as u32;
+        let extras_cut = self.packet.extras.clamp(1, most);
+        self.lending.posted = random.pick(&[1, most, most, extras_cut, random.between(1, most)]) as u32;
     }
 }

@@ -1,11 +1,12 @@
 //! Document 01's bench examples that are run and not proved, as rings. FORMAT.md describes them.
 
 use super::calls::Ring;
+use super::grants::whole_page_bytes;
 use super::replay::Stored;
 use super::ring::{slot_at, PAGE_BYTES};
 use super::slots::{Slot, TRANSMIT_WIDTH};
 
-/// Pages of the window, and references of the grant table: reference g names page g.
+/// Pages of the window, and references of the grant table: reference g names the whole of page g.
 const PAGES: usize = 18;
 
 /// The examples in the order in which they are replayed.
@@ -44,7 +45,7 @@ fn ring(name: &str, consumed: u32, posted: u32, slots: &[Slot]) -> Stored {
         ring: Ring::Transmit,
         consumed,
         page,
-        grants: (0..PAGES as u32).flat_map(|g| (4 * g + 3).to_le_bytes()).collect(),
+        grants: (0..PAGES as u32).flat_map(|g| whole_page_bytes(4 * g + 3)).collect(),
         window: (0..PAGES * PAGE_BYTES).map(|i| (i % 251) as u8).collect(),
     }
 }

@@ -1,5 +1,5 @@
-//! The second program: the backend side of one Xen network queue, written from document 01 alone, to be
-//! compared with the library.
+//! The second program: the backend side of one Xen network queue, written from document 01 and the requests
+//! alone, to be compared with the library.
 //!
 //! A call is a function from what is lent to an `Outcome`: a report, the queue, and the list of changes to the
 //! lent buffers. Nothing is written in place, so every byte that no rule names stays as found. Numbers are

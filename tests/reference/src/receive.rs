@@ -1,6 +1,6 @@
 //! The receive call: delivers one frame into the pages the guest has posted.
 
-use super::grants::{page_at, Access, PAGE_BYTES};
+use super::grants::{fit_grant, Access, Grant, PAGE_BYTES};
 use super::report::*;
 use super::ring;
 use super::slots::{receive_reply, request, Request, ERROR, MORE_DATA, RECEIVE_WIDTH};
@@ -34,9 +34,9 @@ pub fn put(queue: Queue, lent: &Lent) -> Outcome {
 
 /// The outcome for a frame that takes exactly these requests.
 fn deliver(queue: Queue, lent: &Lent, requests: &[Request]) -> Outcome {
-    let page = |r: &Request| page_at(lent.grants, lent.window, r.gref, Access::Write);
-    let pages: Vec<Option<usize>> = requests.iter().map(page).collect();
-    if let Some(place) = pages.iter().position(Option::is_none) {
+    let grant = |r: &Request| fit_grant(lent.grants, lent.window, r.gref, Access::Write);
+    let grants: Vec<Option<Grant>> = requests.iter().map(grant).collect();
+    if let Some(place) = grants.iter().position(Option::is_none) {
         let report = Report { answer: SPOILED, cause: 4, place: place as u32, ..Report::default() };
         let replies = requests.iter().map(|r| receive_reply(r.id, 0, ERROR)).collect();
         return ring::consume(queue, lent.page, RECEIVE_WIDTH, replies, report);
@@ -44,9 +44,13 @@ fn deliver(queue: Queue, lent: &Lent, requests: &[Request]) -> Outcome {
     let report = Report { answer: DONE, total: lent.frame.len() as u32, ..Report::default() };
     let replies = okay_replies(lent.frame, requests);
     let mut outcome = ring::consume(queue, lent.page, RECEIVE_WIDTH, replies, report);
-    let write = |(piece, at): (&[u8], usize)| Change { buffer: Buffer::Window, at, bytes: piece.to_vec() };
+    let write = |(piece, grant): (&[u8], Grant)| Change {
+        buffer: Buffer::Window,
+        at: grant.page_at as usize,
+        bytes: piece.to_vec(),
+    };
     let pieces = lent.frame.chunks(PIECE_BYTES);
-    outcome.changes.extend(pieces.zip(pages.into_iter().flatten()).map(write));
+    outcome.changes.extend(pieces.zip(grants.into_iter().flatten()).map(write));
     outcome
 }
 

@@ -1,7 +1,7 @@
 //! The transmit call: takes the packet at the counter.
 
 use super::grammar::{self, Front};
-use super::grants::{page_at, Access, PAGE_BYTES};
+use super::grants::{fit_grant, Access};
 use super::report::*;
 use super::ring;
 use super::slots::{data, extra, transmit_reply, Data, Extra, Slot};
@@ -19,6 +19,7 @@ pub struct Piece {
     /// The slot's position in the packet.
     pub place: usize,
     pub gref: u64,
+    /// Where the bytes begin, counted from the page's first byte.
     pub offset: i64,
     /// Bytes given. Negative for the first slot where the later sizes add to more than the total.
     pub part: i64,
@@ -92,7 +93,8 @@ pub fn pieces(packet: &Packet) -> Vec<Piece> {
     [first].into_iter().chain(later).collect()
 }
 
-/// Every cause for an error that holds of the packet, in the order in which they count.
+/// The causes for an error that hold of the packet, in the order in which they count. Cause 5 is asked of the range
+/// of a fit grant only.
 fn causes(packet: &Packet, lent: &Lent) -> Vec<Cause> {
     let total = packet.first.size;
     let mut found = Vec::new();
@@ -103,11 +105,10 @@ fn causes(packet: &Packet, lent: &Lent) -> Vec<Cause> {
         found.push((3, 0));
     }
     for piece in pieces(packet) {
-        if page_at(lent.grants, lent.window, piece.gref, Access::Read).is_none() {
-            found.push((4, piece.place));
-        }
-        if piece.offset + piece.part > PAGE_BYTES as i64 {
-            found.push((5, piece.place));
+        match fit_grant(lent.grants, lent.window, piece.gref, Access::Read) {
+            None => found.push((4, piece.place)),
+            Some(grant) if grant.range.holds(piece.offset, piece.part) => {}
+            Some(_) => found.push((5, piece.place)),
         }
     }
     if let Some(last) = packet.extras.last() {
@@ -134,8 +135,8 @@ fn done_report(packet: &Packet) -> Report {
 /// The parts of a packet without causes, joined.
 fn joined(packet: &Packet, lent: &Lent) -> Vec<u8> {
     let part = |piece: Piece| {
-        let page = page_at(lent.grants, lent.window, piece.gref, Access::Read).expect("a fit grant");
-        let at = page + piece.offset as usize;
+        let grant = fit_grant(lent.grants, lent.window, piece.gref, Access::Read).expect("a fit grant");
+        let at = grant.page_at as usize + piece.offset as usize;
         &lent.window[at..at + piece.part as usize]
     };
     pieces(packet).into_iter().map(part).collect::<Vec<_>>().concat()

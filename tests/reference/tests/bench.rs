@@ -4,6 +4,7 @@
 
 use reference::calls::{receive_put, transmit_take, Words};
 use reference::grammar::{begins_packet, division, front, Front};
+use reference::grants::whole_page_bytes;
 use reference::replay::fnv1a;
 use reference::slots::{data, extra, Slot};
 use reference::words::number;
@@ -11,7 +12,13 @@ use reference::words::number;
 const MORE: u16 = 4;
 const EXTRA: u16 = 8;
 
-/// A ring with a window of four pages, page p full of the byte p + 1; reference g names page g, all writable but 3.
+/// Answer, cause and place of a packet that is done, and of one whose slot in place 1 is not fit or not in its range.
+const DONE: [u32; 3] = [0, 0, 0];
+const UNFIT: [u32; 3] = [7, 4, 1];
+const OUTSIDE: [u32; 3] = [7, 5, 1];
+
+/// A ring with a window of four pages, page p full of the byte p + 1; reference g names the whole of page g, all
+/// writable but 3.
 struct Bench {
     consumed: u32,
     halted: u32,
@@ -26,7 +33,7 @@ impl Bench {
         let mut page = vec![0; 4096];
         page[..4].copy_from_slice(&consumed.wrapping_add(posted).to_le_bytes());
         page[8..12].copy_from_slice(&consumed.to_le_bytes());
-        let grants = [0x03_u32, 0x07, 0x0B, 0x0D].iter().flat_map(|word| word.to_le_bytes()).collect();
+        let grants = [0x03, 0x07, 0x0B, 0x0D].into_iter().flat_map(whole_page_bytes).collect();
         let window = (0..4 * 4096).map(|i| (i / 4096 + 1) as u8).collect();
         Bench { consumed, halted: 0, page, grants, window, frame: vec![0xEE; 65_535] }
     }
@@ -48,6 +55,12 @@ impl Bench {
             bench.page[at + 4..at + 8].copy_from_slice(&gref.to_le_bytes());
         }
         bench
+    }
+
+    /// Gives the grant of reference 1 another range.
+    fn share(&mut self, (start, length): (u16, u16)) {
+        self.grants[12..14].copy_from_slice(&start.to_le_bytes());
+        self.grants[14..16].copy_from_slice(&length.to_le_bytes());
     }
 
     fn take(&mut self) -> Words {
@@ -79,6 +92,13 @@ fn sized(sizes_and_flags: &[(u16, u16)]) -> Vec<Slot> {
 /// An extra with gso size 1460 and gso type 1, of a type and with extra flags.
 fn gso(kind: u8, flags: u8) -> Slot {
     [kind, flags, 0xB4, 0x05, 1, 0, 0, 0, 0x11, 0x22, 0x33, 0x44]
+}
+
+/// The verdict on a packet whose slot in place 1 gives a part from an offset of a page with a range.
+fn in_range(range: (u16, u16), offset: u16, part: u16) -> [u32; 3] {
+    let mut bench = Bench::with_slots(0, &[slot(0, 0, MORE, 1, 60 + part), slot(1, offset, 0, 2, part)]);
+    bench.share(range);
+    verdict(bench.take())
 }
 
 /// Answer, cause and place.
@@ -119,6 +139,85 @@ fn totals_and_sums() {
     assert_eq!(of(&[(100, MORE), (101, 0)]), [7, 3, 0]);
     assert_eq!(of(&[(13, MORE), (100, 0)]), [7, 1, 0]);
     assert_eq!(of(&[(65_535, 0)]), [7, 5, 0]);
+}
+
+#[test]
+fn a_part_lies_in_the_range() {
+    let shared = (100, 60);
+    assert_eq!(in_range(shared, 100, 60), DONE);
+    assert_eq!(in_range(shared, 101, 59), DONE);
+    for (offset, part) in [(99, 60), (99, 1), (100, 61), (101, 60), (160, 1), (0, 60), (65_535, 60)] {
+        assert_eq!(in_range(shared, offset, part), OUTSIDE, "{part} bytes from {offset}");
+    }
+    assert_eq!(in_range((0, 4095), 4094, 1), DONE);
+    assert_eq!(in_range((0, 4095), 4095, 1), OUTSIDE);
+}
+
+#[test]
+fn the_offset_of_an_empty_part_is_tested() {
+    for (start, length) in [(100, 60), (100, 0), (4096, 0), (1, 4095)] {
+        let end = start + length;
+        assert_eq!(in_range((start, length), start, 0), DONE, "start {start}");
+        assert_eq!(in_range((start, length), start - 1, 0), OUTSIDE, "start {start}");
+        assert_eq!(in_range((start, length), end, 0), DONE, "end {end}");
+        assert_eq!(in_range((start, length), end + 1, 0), OUTSIDE, "end {end}");
+    }
+    assert_eq!(in_range((0, 0), 0, 0), DONE);
+    assert_eq!(in_range((0, 0), 0, 1), OUTSIDE);
+}
+
+/// Start plus length is at most 4096 in whole numbers, and a range of which that is not so is cause 4 wherever the
+/// part lies.
+#[test]
+fn a_range_lies_in_the_page() {
+    for (start, length) in [(0, 4096), (1, 4095), (4095, 1), (4096, 0)] {
+        assert_eq!(in_range((start, length), start, length.min(1)), DONE, "{length} bytes from {start}");
+    }
+    let beyond = [(0, 4097), (1, 4096), (4096, 1), (4097, 0), (65_535, 1), (100, 65_500), (65_535, 65_535)];
+    for range in beyond {
+        for offset in [range.0, 0, 100] {
+            assert_eq!(in_range(range, offset, 0), UNFIT, "{range:?}, offset {offset}");
+        }
+    }
+}
+
+#[test]
+fn offsets_count_from_the_pages_first_byte() {
+    let mut bench = Bench::with_slots(0, &[slot(1, 110, 0, 7, 14)]);
+    bench.share((100, 60));
+    bench.window = (0..4 * 4096).map(|i| (i % 251) as u8).collect();
+    assert_eq!(verdict(bench.take()), DONE);
+    assert_eq!(bench.frame[..14], bench.window[4096 + 110..4096 + 124]);
+}
+
+#[test]
+fn slot_by_slot_the_grant_before_the_range() {
+    let of = |first, second| {
+        let mut bench = Bench::with_slots(0, &[slot(first, 0, MORE, 1, 60), slot(second, 0, 0, 2, 1)]);
+        bench.share((1, 4095));
+        verdict(bench.take())
+    };
+    assert_eq!(of(1, 4), [7, 5, 0]);
+    assert_eq!(of(4, 1), [7, 4, 0]);
+    assert_eq!(of(0, 1), OUTSIDE);
+}
+
+#[test]
+fn a_word_is_eight_bytes_of_the_table() {
+    let of = |bytes: usize, gref| {
+        let mut bench = Bench::with_slots(0, &[slot(gref, 0, 0, 7, 60)]);
+        bench.grants.extend(whole_page_bytes(0x03));
+        bench.grants.truncate(bytes);
+        verdict(bench.take())
+    };
+    for spare in 0..8 {
+        assert_eq!(of(32 + spare, 3), DONE, "{spare} bytes behind the last word");
+        assert_eq!(of(32 + spare, 4), [7, 4, 0], "{spare} bytes of a word");
+    }
+    assert_eq!(of(40, 4), DONE);
+    for gref in [0x1FFF_FFFF, 0x2000_0000, 0x4000_0000, 0xE000_0000, u32::MAX] {
+        assert_eq!(of(40, gref), [7, 4, 0], "reference {gref}");
+    }
 }
 
 #[test]
@@ -224,6 +323,21 @@ fn receive_replies_and_pieces() {
     assert_eq!(verdict(read_only.put(4097)), [7, 4, 1]);
     assert_eq!(read_only.page[64..80], [9, 0, 0, 0, 0, 0, 0xFF, 0xFF, 10, 0, 0, 0, 0, 0, 0xFF, 0xFF]);
     assert_eq!(read_only.window, Bench::new(0, 0).window);
+}
+
+/// Even for a last piece that the range would take.
+#[test]
+fn receive_wants_the_whole_page_to_write() {
+    let of = |gref, range| {
+        let mut bench = Bench::with_requests(&[(9, 0), (10, gref)]);
+        bench.share(range);
+        verdict(bench.put(4096 + 60))
+    };
+    assert_eq!(of(1, (0, 4096)), DONE);
+    for range in [(0, 4095), (1, 4095), (0, 60), (0, 0), (1, 4096), (0, 4097), (0, 65_535)] {
+        assert_eq!(of(1, range), UNFIT, "{range:?}");
+    }
+    assert_eq!(of(3, (0, 4096)), UNFIT);
 }
 
 #[test]

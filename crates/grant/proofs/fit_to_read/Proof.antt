@@ -3,7 +3,7 @@ use borrow.Author.Needs.{needs}
 use borrow.Author.Tests.{not-true, not-false}
 use mathlib.Core.Path.{sym, _∙_}
 use native.Mathlib.Omega.{arith}
-use Rattle.grant.proofs.Grant.{no-word, not-usable, not-granted, is-fit}
+use Rattle.grant.proofs.Grant.{no-word, has-word, range-too-long, not-usable, not-granted, is-fit}
 use Rattle.grant.proofs.fit_to_read.Statement.{statement}
 use Rattle.grant.proofs.fit_to_read.Tie as tie
 
@@ -25,20 +25,26 @@ returns-2 c =
     let r = c .before .before .u32-at in
     not-granted (a .grants .now) (a .window .now) (a .gref) (omega (arith, c .before .before .before .if1 .left)) (r .result) (r .ensures) (sym (c .before .bit-of .ensures) ∙ not-true _ (c .if2 .taken))
 
-cast-if3 : tie.Need-cast-if3
-cast-if3 c = search needs
+range-end-requires : tie.Need-range-end-requires
+range-end-requires c κs = let a = c .before .before .before .before .before .before .args in has-word (a .grants .now) (a .window .now) (a .gref) (omega (arith, c .before .before .before .if1 .left))
 
 returns-3 : tie.Need-returns-3
-returns-3 c =
-    let a = c .before .before .before .before .before .before .before .args in
-    let r = c .before .before .before .u32-at in
-    not-usable (a .grants .now) (a .window .now) (a .gref) (omega (arith, c .before .before .before .before .if1 .left)) (r .result) (r .ensures) (omega (arith, c .if3 .taken))
+returns-3 c = let a = c .before .before .before .before .before .before .before .before .args in range-too-long (a .grants .now) (a .window .now) (a .gref) (omega (arith, c .before .before .before .before .before .if1 .left)) (omega (arith, c .if3 .taken, c .before .range-end .ensures))
+
+cast-if4 : tie.Need-cast-if4
+cast-if4 c = search needs
 
 returns-4 : tie.Need-returns-4
 returns-4 c =
-    let a = c .before .before .before .before .before .before .before .args in
-    let r = c .before .before .before .u32-at in
-    is-fit (a .grants .now) (a .window .now) (a .gref) (omega (arith, c .before .before .before .before .if1 .left)) (r .result) (r .ensures) (omega (arith, c .if3 .left)) (sym (c .before .before .bit-of .ensures) ∙ not-false _ (c .before .if2 .left))
+    let a = c .before .before .before .before .before .before .before .before .before .args in
+    let r = c .before .before .before .before .before .u32-at in
+    not-usable (a .grants .now) (a .window .now) (a .gref) (omega (arith, c .before .before .before .before .before .before .if1 .left)) (r .result) (r .ensures) (omega (arith, c .if4 .taken))
+
+returns-5 : tie.Need-returns-5
+returns-5 c =
+    let a = c .before .before .before .before .before .before .before .before .before .args in
+    let r = c .before .before .before .before .before .u32-at in
+    is-fit (a .grants .now) (a .window .now) (a .gref) (omega (arith, c .before .before .before .before .before .before .if1 .left)) (r .result) (r .ensures) (omega (arith, c .if4 .left)) (sym (c .before .before .before .before .bit-of .ensures) ∙ not-false _ (c .before .before .before .if2 .left)) (omega (arith, c .before .if3 .left, c .before .before .range-end .ensures))
 
 pub fit-to-read-spec : {M : Type 1} → statement M
 fit-to-read-spec =
@@ -49,6 +55,8 @@ fit-to-read-spec =
     u32-at-requires
     bit-of-requires
     returns-2
-    cast-if3
+    range-end-requires
     returns-3
-    returns-4)
+    cast-if4
+    returns-4
+    returns-5)

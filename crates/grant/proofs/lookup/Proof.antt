@@ -1,44 +1,38 @@
--- `lookup` meets its contract: what `fit_to_read` answers, then the test of the range, each one case of `sourceOf`.
+-- `lookup` meets its contract: the part's end minus its start is its size, and by `looked-up` it is granted.
 use borrow.Author.Needs.{needs}
-use Rattle.grant.specs.declared.Source.the-variants as source
-use mathlib.Core.Path.{ap, _∙_}
-use Rattle.grant.proofs.Grant.{read-fit, read-unfit, source-unfit, source-outside, source-at}
+use mathlib.Core.Path.{_≡_}
+use Prim.Native.Nat.{_+_, _-_, _*_}
+use native.Mathlib.Omega.{arith}
+use Rattle.grant.specs.Grant.{pagePart}
+use Rattle.grant.proofs.Grant.{looked-up}
 use Rattle.grant.proofs.lookup.Statement.{statement}
 use Rattle.grant.proofs.lookup.Tie as tie
 
-fit-to-read-requires : tie.Need-fit-to-read-requires
-fit-to-read-requires c κs = search needs
+mul-a : tie.Need-mul-a
+mul-a c = search needs
 
-enum-told : tie.Need-enum-told
-enum-told c = search needs
+add-a : tie.Need-add-a
+add-a c = search needs
 
-enum-known-page : tie.Need-enum-known-page
-enum-known-page c = search needs
+add-b : tie.Need-add-b
+add-b c = search needs
 
-add-if1 : tie.Need-add-if1
-add-if1 c = search needs
+sub-result : tie.Need-sub-result
+sub-result c = search needs
+
+part-result-start : tie.Need-part-result-start
+part-result-start c = search needs
+
+part-result-end : tie.Need-part-result-end
+part-result-end c = search needs
 
 returns : tie.Need-returns
+unfolding pagePart
 returns c =
-    let a = c .before .before .before .before .before .args in
-    let e = rw (c .enum-told .given .1) at (c .before .before .fit-to-read .ensures) in
-    source-unfit (a .grants .now) (a .window .now) (a .gref) (a .offset) (a .size) (read-unfit (a .grants .now) (a .window .now) (a .gref) e)
-
-returns-2 : tie.Need-returns-2
-returns-2 c =
-    let a = c .before .before .before .before .before .before .before .args in
-    let e = rw (c .before .before .page .given .1) at (c .before .before .before .before .fit-to-read .ensures) in
-    let f = read-fit (a .grants .now) (a .window .now) (a .gref) _ e in
-    source-outside (a .grants .now) (a .window .now) (a .gref) (f .0) (a .offset) (a .size) (c .if1 .taken)
-
-returns-3 : tie.Need-returns-3
-returns-3 c =
-    let a = c .before .before .before .before .before .before .before .args in
-    let e = rw (c .before .before .page .given .1) at (c .before .before .before .before .fit-to-read .ensures) in
-    let f = read-fit (a .grants .now) (a .window .now) (a .gref) _ e in
-    ap source.At (f .1) ∙ source-at (a .grants .now) (a .window .now) (a .gref) (f .0) (a .offset) (a .size) (c .if1 .left)
+    let a = c .before .args in
+    let e : 4096 * a .page + a .offset + a .size - (4096 * a .page + a .offset) ≡ a .size = omega arith in
+    looked-up (a .window .now) (a .page) (a .offset) (a .size) _ (rw e)
 
 pub lookup-spec : {M : Type 1} → statement M
 lookup-spec =
-    tie.close
-    (tie.spec fit-to-read-requires enum-told enum-known-page add-if1 returns returns-2 returns-3)
+    tie.close (tie.spec mul-a add-a add-b sub-result part-result-start part-result-end returns)

@@ -36,8 +36,8 @@ refuse-requires c κs =
 enum-told : tie.Need-enum-told
 enum-told c = search needs
 
-lookup-requires : tie.Need-lookup-requires
-lookup-requires c κs = search needs
+source-of-requires : tie.Need-source-of-requires
+source-of-requires c κs = search needs
 
 enum-told-2 : tie.Need-enum-told-2
 enum-told-2 c = search needs
@@ -79,7 +79,7 @@ accept-alone-requires c κs =
     let ps = packetOne (a .ring .now) (q .consumed) in
     let slot = slotAt 12 256 (a .ring .now) (q .consumed) in
     let d = c .before .before .before .before .before .before .before .before .before .at in
-    let found = c .before .before .before .before .before .lookup .ensures ∙ alone-looked (a .ring .now) (q .consumed) (d .result) (d .ensures) (a .grants .now) (a .window .now) in
+    let found = c .before .before .before .before .before .source-of .ensures ∙ alone-looked (a .ring .now) (q .consumed) (d .result) (d .ensures) (a .grants .now) (a .window .now) in
     let w = c .before .before .before .page .given in
     let at = slot-at (a .grants .now) (a .window .now) 0 slot (ownPart 0 ps) (w .0 .0) (sym (w .1) ∙ found) in
     let inside = slot-inside (a .grants .now) (a .window .now) 0 slot (ownPart 0 ps) (at .0) in
@@ -113,7 +113,7 @@ returns-2 c =
     let slot = slotAt 12 256 (a .ring .now) (q .consumed) in
     let d = c .before .before .before .before .before .before .before .before .before .before .before .at in
     let right = sym (c .before .before .before .before .before .before .before .before .before .before .judge-sizes .ensures) ∙ c .before .before .before .before .before .before .before .before .enum-told .given .1 in
-    let found = c .before .before .before .before .before .before .before .lookup .ensures ∙ alone-looked (a .ring .now) (q .consumed) (d .result) (d .ensures) (a .grants .now) (a .window .now) in
+    let found = c .before .before .before .before .before .before .before .source-of .ensures ∙ alone-looked (a .ring .now) (q .consumed) (d .result) (d .ensures) (a .grants .now) (a .window .now) in
     rw (packet-spoiled (a .grants .now) (a .window .now) q (a .ring .now) (a .frame .now) 0 ps _ _ (alone-bad (a .ring .now) (q .consumed) (d .result) (d .ensures) (a .grants .now) (a .window .now) right 4 0 (slot-unfit (a .grants .now) (a .window .now) 0 slot (ownPart 0 ps) (sym (c .before .before .before .before .before .enum-told2 .given .1) ∙ found)))) (rw (c .before .before .before .before .outline-of2 .ensures) at (c .before .before .refuse2 .ensures (a .frame .now)))
 
 same-length-3 : tie.Need-same-length-3
@@ -127,7 +127,7 @@ returns-3 c =
     let slot = slotAt 12 256 (a .ring .now) (q .consumed) in
     let d = c .before .before .before .before .before .before .before .before .before .before .before .at in
     let right = sym (c .before .before .before .before .before .before .before .before .before .before .judge-sizes .ensures) ∙ c .before .before .before .before .before .before .before .before .enum-told .given .1 in
-    let found = c .before .before .before .before .before .before .before .lookup .ensures ∙ alone-looked (a .ring .now) (q .consumed) (d .result) (d .ensures) (a .grants .now) (a .window .now) in
+    let found = c .before .before .before .before .before .before .before .source-of .ensures ∙ alone-looked (a .ring .now) (q .consumed) (d .result) (d .ensures) (a .grants .now) (a .window .now) in
     rw (packet-spoiled (a .grants .now) (a .window .now) q (a .ring .now) (a .frame .now) 0 ps _ _ (alone-bad (a .ring .now) (q .consumed) (d .result) (d .ensures) (a .grants .now) (a .window .now) right 5 0 (slot-outside (a .grants .now) (a .window .now) 0 slot (ownPart 0 ps) (sym (c .before .before .before .before .before .enum-told3 .given .1) ∙ found)))) (rw (c .before .before .before .before .outline-of3 .ensures) at (c .before .before .refuse3 .ensures (a .frame .now)))
 
 same-length-4 : tie.Need-same-length-4
@@ -144,7 +144,7 @@ returns-4 c =
     let slot = slotAt 12 256 (a .ring .now) (q .consumed) in
     let d = c .before .before .before .before .before .before .before .before .before .before .before .before .before .before .at in
     let right = sym (c .before .before .before .before .before .before .before .before .before .before .before .before .before .judge-sizes .ensures) ∙ c .before .before .before .before .before .before .before .before .before .before .before .enum-told .given .1 in
-    let found = c .before .before .before .before .before .before .before .before .before .before .lookup .ensures ∙ alone-looked (a .ring .now) (q .consumed) (d .result) (d .ensures) (a .grants .now) (a .window .now) in
+    let found = c .before .before .before .before .before .before .before .before .before .before .source-of .ensures ∙ alone-looked (a .ring .now) (q .consumed) (d .result) (d .ensures) (a .grants .now) (a .window .now) in
     let w = c .before .before .before .before .before .before .before .before .page .given in
     let at = slot-at (a .grants .now) (a .window .now) 0 slot (ownPart 0 ps) (w .0 .0) (sym (w .1) ∙ found) in
     c .before .before .before .before .accept-alone .ensures (a .grants .now) (alone-good (a .ring .now) (q .consumed) (d .result) (d .ensures) (a .grants .now) (a .window .now) right (at .0)) (at .1)
@@ -159,7 +159,7 @@ settle-alone-spec =
     outline-of-requires
     refuse-requires
     enum-told
-    lookup-requires
+    source-of-requires
     enum-told-2
     outline-of-requires-2
     refuse-requires-2

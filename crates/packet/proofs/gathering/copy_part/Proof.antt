@@ -15,8 +15,8 @@ use Rattle.packet.proofs.gathering.copy_part.Tie as tie
 add-end : tie.Need-add-end
 add-end c = search needs
 
-part-requires : tie.Need-part-requires
-part-requires c κs = search needs
+lookup-requires : tie.Need-lookup-requires
+lookup-requires c κs = search needs
 
 sub-copy : tie.Need-sub-copy
 sub-copy c = search needs
@@ -31,7 +31,7 @@ copy-requires : tie.Need-copy-requires
 copy-requires c κs =
     let a = c .before .before .before .before .args in
     let p = c .before .before .before .before .pre in
-    let e = ap length (c .before .part .ensures) ∙ part-size (a .window .now) (a .page) (a .offset) (a .size) (p .0) (p .1) in
+    let e = ap length (c .before .lookup .ensures .part) ∙ part-size (a .window .now) (a .page) (a .offset) (a .size) (p .0) (p .1) in
     (simp (length-take, length-drop) (omega (arith, e)), omega (arith, e))
 
 same-length : tie.Need-same-length
@@ -43,7 +43,7 @@ returns c =
     let p = c .before .before .before .before .before .before .before .pre in
     let part = pagePart (a .window .now) (a .page) (a .offset) (a .size) in
     let n = a .at + a .size - a .at in
-    let e = c .before .before .before .before .part .ensures in
+    let e = c .before .before .before .before .lookup .ensures .part in
     ap (λ b. take (a .at) (a .frame .now) ++ (b ++ drop n (drop (a .at) (a .frame .now)))) (c .before .before .copy .ensures .0 ∙ ap (splice (take n (drop (a .at) (a .frame .now))) 0) e)
     ∙ part-written (a .frame .now) part (a .at) n (omega (arith, part-size (a .window .now) (a .page) (a .offset) (a .size) (p .0) (p .1))) (omega arith)
 
@@ -52,7 +52,7 @@ copy-part-spec =
     tie.close
     (tie.spec
     add-end
-    part-requires
+    lookup-requires
     sub-copy
     part-copy-start
     part-copy-end

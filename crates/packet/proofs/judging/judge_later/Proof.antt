@@ -57,30 +57,36 @@ add-at c = search needs
 cast-at : tie.Need-cast-at Inv-loop μ-loop
 cast-at c = search needs
 
-mul-lookup : tie.Need-mul-lookup Inv-loop μ-loop
-mul-lookup c = search needs
+mul-offsets : tie.Need-mul-offsets Inv-loop μ-loop
+mul-offsets c = search needs
 
-element-copy-out-lookup : tie.Need-element-copy-out-lookup Inv-loop μ-loop
-element-copy-out-lookup c = search needs
+element-write-offsets : tie.Need-element-write-offsets Inv-loop μ-loop
+element-write-offsets c = search needs
 
-lookup-requires : tie.Need-lookup-requires Inv-loop μ-loop
-lookup-requires c κs = search needs
+mul-source-of : tie.Need-mul-source-of Inv-loop μ-loop
+mul-source-of c = search needs
+
+element-copy-out-source-of : tie.Need-element-copy-out-source-of Inv-loop μ-loop
+element-copy-out-source-of c = search needs
+
+source-of-requires : tie.Need-source-of-requires Inv-loop μ-loop
+source-of-requires c κs = search needs
 
 enum-told : tie.Need-enum-told Inv-loop μ-loop
 enum-told c = search needs
 
-add-t23 : tie.Need-add-t23 Inv-loop μ-loop
-add-t23 c = search needs
+add-t25 : tie.Need-add-t25 Inv-loop μ-loop
+add-t25 c = search needs
 
-add-t24 : tie.Need-add-t24 Inv-loop μ-loop
-add-t24 c = search needs
+add-t26 : tie.Need-add-t26 Inv-loop μ-loop
+add-t26 c = search needs
 
 returns : tie.Need-returns Inv-loop μ-loop
 returns c =
     let a = c .before .before .before .before .before .before .before .before .before .before .before .args in
     let l = c .before .before .before .before .before .before .loop in
     let s = c .before .before .before .before .at in
-    let r = c .before .before .lookup in
+    let r = c .before .before .source-of in
     let k : l .i < a .later = omega arith in
     record {
       verdict = sym (l .inv .2 ∙ turn-unfit (a .grants .now) (a .window .now) (a .ring .now) (a .first) (a .extras) (a .later) (l .i) k (a .sizes .now) (c .before .before .before .before .before .before .before .before .before .before .before .pre .3) (l .n) (l .inv .1) (s .result) (s .ensures) (r .result) (r .ensures) (c .enum-told .given .1));
@@ -91,18 +97,18 @@ returns c =
 enum-told-2 : tie.Need-enum-told-2 Inv-loop μ-loop
 enum-told-2 c = search needs
 
-add-t25 : tie.Need-add-t25 Inv-loop μ-loop
-add-t25 c = search needs
+add-t27 : tie.Need-add-t27 Inv-loop μ-loop
+add-t27 c = search needs
 
-add-t26 : tie.Need-add-t26 Inv-loop μ-loop
-add-t26 c = search needs
+add-t28 : tie.Need-add-t28 Inv-loop μ-loop
+add-t28 c = search needs
 
 returns-2 : tie.Need-returns-2 Inv-loop μ-loop
 returns-2 c =
     let a = c .before .before .before .before .before .before .before .before .before .before .before .args in
     let l = c .before .before .before .before .before .before .loop in
     let s = c .before .before .before .before .at in
-    let r = c .before .before .lookup in
+    let r = c .before .before .source-of in
     let k : l .i < a .later = omega arith in
     record {
       verdict = sym (l .inv .2 ∙ turn-outside (a .grants .now) (a .window .now) (a .ring .now) (a .first) (a .extras) (a .later) (l .i) k (a .sizes .now) (c .before .before .before .before .before .before .before .before .before .before .before .pre .3) (l .n) (l .inv .1) (s .result) (s .ensures) (r .result) (r .ensures) (c .enum-told2 .given .1));
@@ -119,12 +125,6 @@ mul-pages c = search needs
 element-write-pages : tie.Need-element-write-pages Inv-loop μ-loop
 element-write-pages c = search needs
 
-mul-offsets : tie.Need-mul-offsets Inv-loop μ-loop
-mul-offsets c = search needs
-
-element-write-offsets : tie.Need-element-write-offsets Inv-loop μ-loop
-element-write-offsets c = search needs
-
 add-i : tie.Need-add-i Inv-loop μ-loop
 add-i c = search needs
 
@@ -139,7 +139,7 @@ loop-again c =
     let a = c .before .before .before .before .before .before .before .before .before .before .before .before .before .args in
     let l = c .before .before .before .before .before .before .before .before .loop in
     let s = c .before .before .before .before .before .before .at in
-    let r = c .before .before .before .before .lookup in
+    let r = c .before .before .before .before .source-of in
     let k : l .i < a .later = omega arith in
     let q = c .before .before .page .given in (
       omega arith,
@@ -174,22 +174,22 @@ judge-later-spec =
     at-requires
     add-at
     cast-at
-    mul-lookup
-    element-copy-out-lookup
-    lookup-requires
+    mul-offsets
+    element-write-offsets
+    mul-source-of
+    element-copy-out-source-of
+    source-of-requires
     enum-told
-    add-t23
-    add-t24
-    returns
-    enum-told-2
     add-t25
     add-t26
+    returns
+    enum-told-2
+    add-t27
+    add-t28
     returns-2
     enum-known-page
     mul-pages
     element-write-pages
-    mul-offsets
-    element-write-offsets
     add-i
     ahead-requires-2
     loop-less

@@ -1,4 +1,4 @@
--- `judging::judge_slots` meets its contract: the first slot's verdict by the lookup's answer, then the later ones'.
+-- `judging::judge_slots` meets its contract: the first slot's verdict by the source of its part, then the later ones'.
 use mathlib.Core.Path.{_≡_, sym, ap, _∙_}
 use Prim.Native.Nat.{ℕ, suc, _-_}
 use native.Mathlib.Omega.{arith}
@@ -13,11 +13,11 @@ use borrow.Author.Needs.{needs}
 use Rattle.packet.proofs.judging.judge_slots.Statement.{statement}
 use Rattle.packet.proofs.judging.judge_slots.Tie as tie
 
-element-copy-out-lookup : tie.Need-element-copy-out-lookup
-element-copy-out-lookup c = search needs
+element-copy-out-source-of : tie.Need-element-copy-out-source-of
+element-copy-out-source-of c = search needs
 
-lookup-requires : tie.Need-lookup-requires
-lookup-requires c κs = search needs
+source-of-requires : tie.Need-source-of-requires
+source-of-requires c κs = search needs
 
 enum-told : tie.Need-enum-told
 enum-told c = search needs
@@ -46,7 +46,7 @@ judge-later-requires c κs =
     let p = c .before .before .before .before .before .before .before .before .before .before .before .before .before .pre in
     let e = a .o .extras in
     let ps = packetAt (a .ring .now) (a .first) (a .o) in
-    let r = c .before .before .before .before .before .before .before .lookup in
+    let r = c .before .before .before .before .before .before .before .source-of in
     let found = r .ensures ∙ source-of-slot (a .grants .now) (a .window .now) (firstOf ps) (a .o .head) _ (ownPart e ps) (head-of (a .o) e ps (p .1 .outline)) (own-held (a .sizes .now) e ps (p .2)) in
     let n = a .o .slots in (
       p .0,
@@ -63,7 +63,7 @@ returns c =
     let p = c .before .before .before .before .before .before .before .before .pre in
     let e = a .o .extras in
     let ps = packetAt (a .ring .now) (a .first) (a .o) in
-    let r = c .before .before .lookup in
+    let r = c .before .before .source-of in
     let found = r .ensures ∙ source-of-slot (a .grants .now) (a .window .now) (firstOf ps) (a .o .head) _ (ownPart e ps) (head-of (a .o) e ps (p .1 .outline)) (own-held (a .sizes .now) e ps (p .2)) in
     record {
       verdict = sym (slots-bad (a .grants .now) (a .window .now) e ps _ _ (slot-unfit (a .grants .now) (a .window .now) 0 (firstOf ps) (ownPart e ps) (sym (c .enum-told .given .1) ∙ found)));
@@ -77,7 +77,7 @@ returns-2 c =
     let p = c .before .before .before .before .before .before .before .before .pre in
     let e = a .o .extras in
     let ps = packetAt (a .ring .now) (a .first) (a .o) in
-    let r = c .before .before .lookup in
+    let r = c .before .before .source-of in
     let found = r .ensures ∙ source-of-slot (a .grants .now) (a .window .now) (firstOf ps) (a .o .head) _ (ownPart e ps) (head-of (a .o) e ps (p .1 .outline)) (own-held (a .sizes .now) e ps (p .2)) in
     record {
       verdict = sym (slots-bad (a .grants .now) (a .window .now) e ps _ _ (slot-outside (a .grants .now) (a .window .now) 0 (firstOf ps) (ownPart e ps) (sym (c .enum-told2 .given .1) ∙ found)));
@@ -91,7 +91,7 @@ returns-3 c =
     let p = c .before .before .before .before .before .before .before .before .before .before .before .before .before .before .pre in
     let e = a .o .extras in
     let ps = packetAt (a .ring .now) (a .first) (a .o) in
-    let r = c .before .before .before .before .before .before .before .before .lookup in
+    let r = c .before .before .before .before .before .before .before .before .source-of in
     let found = r .ensures ∙ source-of-slot (a .grants .now) (a .window .now) (firstOf ps) (a .o .head) _ (ownPart e ps) (head-of (a .o) e ps (p .1 .outline)) (own-held (a .sizes .now) e ps (p .2)) in
     let n = a .o .slots in
     let q = c .before .before .before .before .before .before .page .given in
@@ -108,8 +108,8 @@ pub judge-slots-spec : {M : Type 1} → statement M
 judge-slots-spec =
     tie.close
     (tie.spec
-    element-copy-out-lookup
-    lookup-requires
+    element-copy-out-source-of
+    source-of-requires
     enum-told
     enum-told-2
     enum-known-page

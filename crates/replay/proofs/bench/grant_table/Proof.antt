@@ -7,7 +7,7 @@ use Rattle.replay.proofs.bench.grant_table.Statement.{statement}
 use Rattle.replay.proofs.bench.grant_table.Tie as tie
 
 abbrev Inv-loop : tie.InvT-loop
-Inv-loop grants₀ g₀ grants g = (g ≤ 18) × (72 ≡ length grants)
+Inv-loop grants₀ g₀ grants g = (g ≤ 18) × (144 ≡ length grants)
 
 abbrev μ-loop : tie.MeasureT-loop
 μ-loop grants₀ g₀ grants g = 18 - g
@@ -15,23 +15,32 @@ abbrev μ-loop : tie.MeasureT-loop
 loop-holds : tie.Need-loop-holds Inv-loop μ-loop
 loop-holds c = search needs
 
+cast-at : tie.Need-cast-at Inv-loop μ-loop
+cast-at c = search needs
+
+mul-at : tie.Need-mul-at Inv-loop μ-loop
+mul-at c = search needs
+
 slice-aggregate-put-u32 : tie.Need-slice-aggregate-put-u32 Inv-loop μ-loop
 slice-aggregate-put-u32 c = search needs
 
-cast-put-u32 : tie.Need-cast-put-u32 Inv-loop μ-loop
-cast-put-u32 c = search needs
-
 mul-put-u32 : tie.Need-mul-put-u32 Inv-loop μ-loop
 mul-put-u32 c = search needs
-
-mul-put-u32-2 : tie.Need-mul-put-u32-2 Inv-loop μ-loop
-mul-put-u32-2 c = search needs
 
 add-put-u32 : tie.Need-add-put-u32 Inv-loop μ-loop
 add-put-u32 c = search needs
 
 put-u32-requires : tie.Need-put-u32-requires Inv-loop μ-loop
 put-u32-requires c κs = search needs
+
+slice-aggregate-put-u16 : tie.Need-slice-aggregate-put-u16 Inv-loop μ-loop
+slice-aggregate-put-u16 c = search needs
+
+add-put-u16 : tie.Need-add-put-u16 Inv-loop μ-loop
+add-put-u16 c = search needs
+
+put-u16-requires : tie.Need-put-u16-requires Inv-loop μ-loop
+put-u16-requires c κs = search needs
 
 add-g : tie.Need-add-g Inv-loop μ-loop
 add-g c = search needs
@@ -52,12 +61,15 @@ grant-table-spec =
     Inv-loop
     μ-loop
     loop-holds
+    cast-at
+    mul-at
     slice-aggregate-put-u32
-    cast-put-u32
     mul-put-u32
-    mul-put-u32-2
     add-put-u32
     put-u32-requires
+    slice-aggregate-put-u16
+    add-put-u16
+    put-u16-requires
     add-g
     loop-less
     loop-again
