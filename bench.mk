@@ -46,7 +46,8 @@ $(BENCH_PARTS:%=$(BUILD)/bench/%.o): $(BUILD)/bench/%.o: bench/%.c $(BENCH_HEADE
 $(BENCH_YARDSTICK): $(BUILD)/bench/plain.o
 	@mkdir -p $(@D)
 	$(SAY)objcopy --redefine-sym plain_transmit_take=tollmeander_transmit_take \
-	    --redefine-sym plain_receive_put=tollmeander_receive_put $< $(@D)/plain.o && \
+	    --redefine-sym plain_receive_put=tollmeander_receive_put \
+	    --redefine-sym plain_transmit_post=tollmeander_transmit_post $< $(@D)/plain.o && \
 	    rm -f $@ && ar rcs $@ $(@D)/plain.o
 
 # Linked each time, as TOLLMEANDER_LIB may be another. memcpy is found at the start, not at the first call.

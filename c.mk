@@ -7,7 +7,7 @@
 #   test-programs       builds what the tests run
 
 TOLLMEANDER_LIB ?= target/staticlib/libtollmeander.a
-TOLLMEANDER_VERSION ?= 0.2.0
+TOLLMEANDER_VERSION ?= 0.3.0
 PREFIX ?= /usr/local
 BUILD ?= build
 
@@ -26,14 +26,15 @@ PC := $(BUILD)/tollmeander.pc
 DEMO := $(BUILD)/tollmeander-demo
 
 # The simulated guest and the event channel, which demo and tests share.
-GUEST_PARTS := host/back_ring demo/front_ring demo/guest_pages demo/traffic demo/sender \
-               demo/receiver demo/device
+GUEST_PARTS := host/back_ring host/front_ring demo/slot_ring demo/guest_pages demo/traffic \
+               demo/sender demo/poster demo/receiver demo/device
 DEMO_PARTS := $(GUEST_PARTS) demo/guest demo/vif demo/options demo/outcome demo/progress \
               demo/table demo/main
 THREAD_PARTS := $(GUEST_PARTS) tests/host/channel
 
-THREAD_TESTS := transmit_run receive_run hostile_transmit hostile_receive
-TEST_PROGRAMS := $(addprefix $(BUILD)/tests/,layout edges interleave $(THREAD_TESTS)) \
+THREAD_TESTS := transmit_run receive_run post_run hostile_transmit hostile_receive
+RING_TESTS := edges interleave front_edges front_interleave
+TEST_PROGRAMS := $(addprefix $(BUILD)/tests/,layout $(RING_TESTS) $(THREAD_TESTS)) \
                  $(addprefix $(BUILD)/tsan/,$(THREAD_TESTS))
 
 .PHONY: lib install demo test-c test-programs FORCE
@@ -78,14 +79,13 @@ $(BUILD)/tests/layout: $(BUILD)/obj/tests/c/layout.o $(LIB)
 	@mkdir -p $(@D)
 	$(SAY)$(CC) $^ -o $@
 
-$(BUILD)/tests/edges: $(BUILD)/obj/tests/host/edges.o $(BUILD)/obj/host/back_ring.o $(LIB)
+# A test of interleavings includes its ring's source, with hooks in it.
+$(BUILD)/tests/edges: $(BUILD)/obj/host/back_ring.o
+$(BUILD)/tests/front_edges: $(BUILD)/obj/host/front_ring.o
+$(BUILD)/tests/front_interleave: $(BUILD)/obj/host/back_ring.o
+$(RING_TESTS:%=$(BUILD)/tests/%): $(BUILD)/tests/%: $(BUILD)/obj/tests/host/%.o $(LIB)
 	@mkdir -p $(@D)
-	$(SAY)$(CC) $^ -o $@
-
-# Includes back_ring.c, with hooks in it.
-$(BUILD)/tests/interleave: $(BUILD)/obj/tests/host/interleave.o $(LIB)
-	@mkdir -p $(@D)
-	$(SAY)$(CC) $^ -o $@
+	$(SAY)$(CC) $(filter %.o,$^) $(LIB) -o $@
 
 $(THREAD_TESTS:%=$(BUILD)/tests/%): $(BUILD)/tests/%: $(BUILD)/obj/tests/host/%.o \
                                     $(THREAD_PARTS:%=$(BUILD)/obj/%.o) $(LIB)

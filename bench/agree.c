@@ -37,8 +37,8 @@ static const char *difference(const struct scene scenes[2], const struct queue q
 static bool calls_agree(struct scene scenes[2])
 {
     const struct row *row = scenes[0].row;
-    struct queue queues[2] = { { .consumed = scenes[0].counter },
-                               { .consumed = scenes[1].counter } };
+    struct queue queues[2] = { { .counter = scenes[0].counter },
+                               { .counter = scenes[1].counter } };
 
     for (uint32_t call = 0; call < scenes[0].calls; call++) {
         const char *what;

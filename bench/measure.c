@@ -21,8 +21,9 @@ enum {
 };
 
 const struct calls calls_of[MEMCPY] = {
-    [LIBRARY] = { "library", tollmeander_transmit_take, tollmeander_receive_put },
-    [PLAIN] = { "plain C", plain_transmit_take, plain_receive_put },
+    [LIBRARY] = { "library", tollmeander_transmit_take, tollmeander_receive_put,
+                  tollmeander_transmit_post },
+    [PLAIN] = { "plain C", plain_transmit_take, plain_receive_put, plain_transmit_post },
 };
 
 void stay(void)
@@ -46,24 +47,42 @@ static double now(void)
     return (double)time.tv_sec * SECOND_NS + (double)time.tv_nsec;
 }
 
+/* Posts a frame in pages of its own. No reply is read: the ring is full in the end. */
+static uint32_t make_post(struct scene *scene, uint8_t *ring, const struct calls *calls,
+                          struct queue *queue)
+{
+    const struct row *row = scene->row;
+    uint32_t answer = calls->post(scene->counter, ring, TOLLMEANDER_PAGE_SIZE, scene->grants,
+                                  sizeof scene->grants, scene->window, sizeof scene->window,
+                                  scene->references + queue->counter % SCENE_PAGES,
+                                  row->data_slots, scene->frame, scene->frame_len, row->extras,
+                                  SCENE_GSO_SIZE, SCENE_GSO_TYPE, &queue->report);
+
+    queue->counter += queue->report.slots;
+    return answer;
+}
+
 uint32_t make_call(struct scene *scene, uint8_t *ring, const struct calls *calls,
                    struct queue *queue)
 {
     if (scene->row->way == TRANSMIT)
-        return calls->take(&queue->consumed, &queue->halted, ring, TOLLMEANDER_PAGE_SIZE,
+        return calls->take(&queue->counter, &queue->halted, ring, TOLLMEANDER_PAGE_SIZE,
                            scene->grants, sizeof scene->grants, scene->window,
                            sizeof scene->window, scene->frame, scene->frame_len,
                            &queue->report);
-    return calls->put(&queue->consumed, &queue->halted, ring, TOLLMEANDER_PAGE_SIZE,
-                      scene->grants, sizeof scene->grants, scene->window,
-                      sizeof scene->window, scene->frame, scene->frame_len, &queue->report);
+    if (scene->row->way == RECEIVE)
+        return calls->put(&queue->counter, &queue->halted, ring, TOLLMEANDER_PAGE_SIZE,
+                          scene->grants, sizeof scene->grants, scene->window,
+                          sizeof scene->window, scene->frame, scene->frame_len,
+                          &queue->report);
+    return make_post(scene, ring, calls, queue);
 }
 
 /* Not inlined: callgrind is told to write its counts down after each call of this function. */
 __attribute__((noinline))
 void drain_ring(struct scene *scene, uint8_t *ring, const struct calls *calls)
 {
-    struct queue queue = { .consumed = scene->counter };
+    struct queue queue = { .counter = scene->counter };
     uint32_t answer = scene->row->answer;
     uint32_t wrong = 0;
 

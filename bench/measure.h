@@ -9,13 +9,16 @@
 /* Those who are measured; the last makes the copies and nothing else. */
 enum { LIBRARY, PLAIN, MEMCPY, CONTENDERS };
 
-/* Two calls of the header's form. */
+/* Three calls of the header's form. */
 struct calls {
     const char *name;
     uint32_t (*take)(uint32_t *, uint32_t *, uint8_t *, size_t, const uint8_t *, size_t,
                      const uint8_t *, size_t, uint8_t *, size_t, struct tollmeander_report *);
     uint32_t (*put)(uint32_t *, uint32_t *, uint8_t *, size_t, const uint8_t *, size_t,
                     uint8_t *, size_t, const uint8_t *, size_t, struct tollmeander_report *);
+    uint32_t (*post)(uint32_t, uint8_t *, size_t, const uint8_t *, size_t, uint8_t *, size_t,
+                     const uint32_t *, size_t, const uint8_t *, size_t, uint32_t, uint16_t, uint8_t,
+                     struct tollmeander_report *);
 };
 
 /* Those of the library and of plain C. */
@@ -23,7 +26,7 @@ extern const struct calls calls_of[MEMCPY];
 
 /* A queue that calls are made on. */
 struct queue {
-    uint32_t consumed;
+    uint32_t counter;           /* slots consumed; by posts, slots posted */
     uint32_t halted;
     struct tollmeander_report report;
 };

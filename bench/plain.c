@@ -1,5 +1,5 @@
 /*
- * The two calls in plain C, with memcpy, as one would write them by hand.
+ * The three calls in plain C, with memcpy, as one would write them by hand.
  *
  * A slot is read once, into a value, and that value decides: a guest that
  * rewrites the page meanwhile gets no access that it is not granted. Nothing is
@@ -22,12 +22,15 @@ enum {
     GSO_TCPV4 = 1,
     GSO_TCPV6 = 2,
 
-    FRAME_PAGES_MAX = 16
+    FRAME_PAGES_MAX = 16,
+
+    /* Start 0 and length 4096, as the last four bytes of a grant word. */
+    WHOLE_PAGE = TOLLMEANDER_PAGE_SIZE << 16
 };
 
-/* What both calls are lent. */
+/* What all calls are lent. */
 struct lent {
-    uint32_t *consumed;
+    uint32_t *consumed;         /* by take and put; post has no such counter */
     uint8_t *ring;
     const uint8_t *grants;
     size_t grant_words;
@@ -75,6 +78,18 @@ struct part {
 struct piece {
     uint8_t *to;
     size_t length;
+};
+
+/* A frame that is to be posted. */
+struct posting {
+    const uint32_t *references;
+    size_t references_len;
+    const uint8_t *frame;
+    size_t frame_len;
+    uint32_t replies_read;
+    uint32_t extras;            /* 1 if gso is asked for, else 0 */
+    uint16_t gso_size;
+    uint8_t gso_type;
 };
 
 /* Why a packet or a frame is refused; cause 0 if it is not. */
@@ -285,10 +300,9 @@ static inline uint32_t find_part(const struct lent *lent, const uint8_t *window,
     return 0;
 }
 
-static bool gso_is_good(const struct packet *packet)
+static bool gso_is_good(uint32_t size, uint32_t type)
 {
-    return packet->gso_size != 0 &&
-           (packet->gso_type == GSO_TCPV4 || packet->gso_type == GSO_TCPV6);
+    return size != 0 && (type == GSO_TCPV4 || type == GSO_TCPV6);
 }
 
 /* Finds the parts of a packet, or the first cause to refuse it. */
@@ -308,7 +322,7 @@ static struct verdict judge(const struct lent *lent, const uint8_t *window,
         if (cause != 0)
             return (struct verdict){ cause, packet->extras + i };
     }
-    if (packet->extras != 0 && !gso_is_good(packet))
+    if (packet->extras != 0 && !gso_is_good(packet->gso_size, packet->gso_type))
         return (struct verdict){ TOLLMEANDER_CAUSE_GSO, packet->extras };
     return (struct verdict){ 0, 0 };
 }
@@ -523,6 +537,12 @@ static uint32_t put_all(const struct lent *lent, uint32_t count, uint8_t *window
     return deliver(lent, count, frame_len);
 }
 
+/* The pages that a frame takes. */
+static uint32_t pages_of(size_t frame_len)
+{
+    return ((uint32_t)frame_len + TOLLMEANDER_PAGE_SIZE - 1) / TOLLMEANDER_PAGE_SIZE;
+}
+
 uint32_t plain_receive_put(uint32_t *consumed, uint32_t *halted,
                            uint8_t *ring, size_t ring_len,
                            const uint8_t *grants, size_t grants_len,
@@ -544,10 +564,188 @@ uint32_t plain_receive_put(uint32_t *consumed, uint32_t *halted,
     posted = req_prod - *consumed;
     if (posted > TOLLMEANDER_RING_SLOTS)
         return halt(halted, report, TOLLMEANDER_OVERFLOW);
-    count = ((uint32_t)frame_len + TOLLMEANDER_PAGE_SIZE - 1) / TOLLMEANDER_PAGE_SIZE;
+    count = pages_of(frame_len);
     if (posted < count)
         return ask_event(&lent, req_prod, TOLLMEANDER_NO_BUFFERS);
     if (count == 1)
         return put_one(&lent, window, frame, frame_len);
     return put_all(&lent, count, window, frame, frame_len);
+}
+
+/* Whether a reference is fit for receive; where its page begins in the window. */
+static inline bool find_page(const struct lent *lent, uint32_t gref, size_t *page)
+{
+    const uint32_t bits = TOLLMEANDER_GRANTED | TOLLMEANDER_GRANT_WRITABLE;
+    const uint8_t *word;
+    uint32_t access, number;
+
+    if (gref >= lent->grant_words)
+        return false;
+    word = lent->grants + (size_t)gref * TOLLMEANDER_GRANT_WORD_SIZE;
+    access = get32(word);
+    number = access >> TOLLMEANDER_GRANT_PAGE_BIT;
+    *page = (size_t)number * TOLLMEANDER_PAGE_SIZE;
+    return (access & bits) == bits && number < lent->window_pages &&
+           get32(word + TOLLMEANDER_GRANT_START) == WHOLE_PAGE;
+}
+
+/* Whether so many slots are free behind req_prod. */
+static bool has_room(const struct posting *posting, uint32_t req_prod, uint32_t slots)
+{
+    return req_prod - posting->replies_read <= TOLLMEANDER_RING_SLOTS - slots;
+}
+
+/* Writes a data slot whose part begins with its page. */
+static void write_data(uint8_t *ring, uint32_t n, uint32_t gref, uint32_t flags, size_t size)
+{
+    uint8_t *to = transmit_slot(ring, n);
+
+    put32(to, gref);
+    put32(to + 4, flags << 16);
+    put32(to + 8, (n & 0xffff) | (uint32_t)size << 16);
+}
+
+/* Writes the extra that asks for gso. */
+static void write_extra(uint8_t *ring, uint32_t n, uint16_t gso_size, uint8_t gso_type)
+{
+    uint8_t *to = transmit_slot(ring, n);
+
+    put32(to, EXTRA_GSO | (uint32_t)gso_size << 16);
+    put32(to + 4, gso_type);
+    put32(to + 8, 0);
+}
+
+/* Writes a packet's first slot and, if gso is asked for, its extra. */
+static inline void write_head(const struct lent *lent, const struct posting *posting, uint32_t n,
+                              uint32_t gref, uint32_t flags)
+{
+    if (posting->extras == 0) {
+        write_data(lent->ring, n, gref, flags, posting->frame_len);
+        return;
+    }
+    write_data(lent->ring, n, gref, flags | FLAG_EXTRA_FOLLOWS, posting->frame_len);
+    write_extra(lent->ring, n + 1, posting->gso_size, posting->gso_type);
+}
+
+/* Writes the data slots after the first; that of piece i has counter n + i. */
+static inline void write_rest(const struct lent *lent, const struct posting *posting, uint32_t n,
+                              uint32_t count, const struct piece *pieces)
+{
+    uint32_t last = count - 1;
+
+    for (uint32_t i = 1; i < last; i++)
+        write_data(lent->ring, n + i, posting->references[i], FLAG_MORE_DATA, pieces[i].length);
+    write_data(lent->ring, n + last, posting->references[last], 0, pieces[last].length);
+}
+
+/* Ends a call whose frame is in its pages and whose slots are written. */
+static uint32_t post_done(const struct lent *lent, uint32_t req_prod, uint32_t slots)
+{
+    uint32_t new = req_prod + slots;
+
+    put32(lent->ring + TOLLMEANDER_RING_REQ_PROD, new);
+    *lent->report = (struct tollmeander_report){
+        .answer = TOLLMEANDER_DONE,
+        .slots = slots,
+        .notify = new - get32(lent->ring + TOLLMEANDER_RING_REQ_EVENT) < slots,
+    };
+    return TOLLMEANDER_DONE;
+}
+
+/* Posts a frame of one page. */
+static uint32_t post_one(const struct lent *lent, const struct posting *posting, uint8_t *window)
+{
+    uint32_t req_prod = get32(lent->ring + TOLLMEANDER_RING_REQ_PROD);
+    uint32_t slots = 1 + posting->extras;
+    uint32_t gref;
+    size_t page;
+
+    if (posting->references_len == 0)
+        return tell(lent->report, TOLLMEANDER_BAD_PAGES);
+    gref = posting->references[0];
+    if (!find_page(lent, gref, &page))
+        return tell(lent->report, TOLLMEANDER_BAD_PAGES);
+    if (!has_room(posting, req_prod, slots))
+        return tell(lent->report, TOLLMEANDER_NO_SLOTS);
+    memcpy(window + page, posting->frame, posting->frame_len);
+    write_head(lent, posting, req_prod, gref, 0);
+    return post_done(lent, req_prod, slots);
+}
+
+/* Whether two pieces of a frame go to one page. */
+static bool has_pair(const struct piece *pieces, uint32_t count)
+{
+    for (uint32_t i = 1; i < count; i++)
+        for (uint32_t j = 0; j < i; j++)
+            if (pieces[j].to == pieces[i].to)
+                return true;
+    return false;
+}
+
+/* Whether all references of a frame are fit; where its pieces go. */
+static bool find_places(const struct lent *lent, const struct posting *posting, uint8_t *window,
+                        struct piece *pieces)
+{
+    size_t left = posting->frame_len;
+
+    for (uint32_t i = 0; left > 0; i++) {
+        size_t length = left < TOLLMEANDER_PAGE_SIZE ? left : TOLLMEANDER_PAGE_SIZE;
+        size_t page;
+
+        if (!find_page(lent, posting->references[i], &page))
+            return false;
+        pieces[i] = (struct piece){ window + page, length };
+        left -= length;
+    }
+    return true;
+}
+
+/* Posts a frame of several pages. */
+static uint32_t post_all(const struct lent *lent, const struct posting *posting, uint32_t count,
+                         uint8_t *window)
+{
+    uint32_t req_prod = get32(lent->ring + TOLLMEANDER_RING_REQ_PROD);
+    uint32_t slots = count + posting->extras;
+    const uint8_t *frame = posting->frame;
+    struct piece pieces[FRAME_PAGES_MAX];
+
+    if (posting->references_len < count || !find_places(lent, posting, window, pieces) ||
+        has_pair(pieces, count))
+        return tell(lent->report, TOLLMEANDER_BAD_PAGES);
+    if (!has_room(posting, req_prod, slots))
+        return tell(lent->report, TOLLMEANDER_NO_SLOTS);
+    for (uint32_t i = 0; i < count; i++) {
+        memcpy(pieces[i].to, frame, pieces[i].length);
+        frame += pieces[i].length;
+    }
+    write_head(lent, posting, req_prod, posting->references[0], FLAG_MORE_DATA);
+    write_rest(lent, posting, req_prod + posting->extras, count, pieces);
+    return post_done(lent, req_prod, slots);
+}
+
+uint32_t plain_transmit_post(uint32_t replies_read,
+                             uint8_t *ring, size_t ring_len,
+                             const uint8_t *grants, size_t grants_len,
+                             uint8_t *window, size_t window_len,
+                             const uint32_t *references, size_t references_len,
+                             const uint8_t *frame, size_t frame_len,
+                             uint32_t gso, uint16_t gso_size, uint8_t gso_type,
+                             struct tollmeander_report *report)
+{
+    const struct lent lent = { NULL, ring, grants, grants_len / TOLLMEANDER_GRANT_WORD_SIZE,
+                               window_len / TOLLMEANDER_PAGE_SIZE, report };
+    const struct posting posting = { references, references_len, frame, frame_len, replies_read,
+                                     gso != 0, gso_size, gso_type };
+    uint32_t count;
+
+    if (ring_len != TOLLMEANDER_PAGE_SIZE)
+        return tell(report, TOLLMEANDER_BAD_PAGE);
+    if (frame_len < TOLLMEANDER_FRAME_MIN || frame_len > TOLLMEANDER_FRAME_MAX)
+        return tell(report, TOLLMEANDER_BAD_LENGTH);
+    if (gso != 0 && !gso_is_good(gso_size, gso_type))
+        return tell(report, TOLLMEANDER_BAD_GSO);
+    count = pages_of(frame_len);
+    if (count == 1)
+        return post_one(&lent, &posting, window);
+    return post_all(&lent, &posting, count, window);
 }

@@ -2,6 +2,7 @@
 
 enum {
     ETHERNET = 1514,
+    PAGE = TOLLMEANDER_PAGE_SIZE,
     LARGEST = TOLLMEANDER_FRAME_MAX,
     /* Where a guest's frame begins, so that its IP header stands at a multiple of 4. */
     IP_ALIGN = 2
@@ -23,6 +24,14 @@ static const struct row cases[CASE_ROWS] = {
     { "rx 1514 B", RECEIVE, TOLLMEANDER_DONE, ETHERNET, 1, 0, 0 },
     { "rx 65535 B", RECEIVE, TOLLMEANDER_DONE, LARGEST, 16, 0, 0 },
     { "rx no buffers", RECEIVE, TOLLMEANDER_NO_BUFFERS, ETHERNET, 1, 0, 0 },
+    { "post 64 B", POST, TOLLMEANDER_DONE, 64, 1, 0, 0 },
+    { "post 64 B + gso", POST, TOLLMEANDER_DONE, 64, 1, 1, 0 },
+    { "post 1514 B", POST, TOLLMEANDER_DONE, ETHERNET, 1, 0, 0 },
+    { "post 4096 B", POST, TOLLMEANDER_DONE, PAGE, 1, 0, 0 },
+    { "post 4097 B", POST, TOLLMEANDER_DONE, PAGE + 1, 2, 0, 0 },
+    { "post 65535 B", POST, TOLLMEANDER_DONE, LARGEST, 16, 0, 0 },
+    { "post no slots", POST, TOLLMEANDER_NO_SLOTS, ETHERNET, 1, 0, 0 },
+    { "post bad pages, 16 pages", POST, TOLLMEANDER_BAD_PAGES, LARGEST, 16, 0, 0 },
 };
 
 static const uint32_t bytes[BYTE_ROWS] = {

@@ -7,7 +7,7 @@
 #include "measure.h"
 
 enum {
-    CASE_ROWS = 14,
+    CASE_ROWS = 22,
     SLOT_ROWS = TOLLMEANDER_PACKET_DATA_MAX,
     BYTE_ROWS = 9
 };

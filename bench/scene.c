@@ -18,8 +18,9 @@ enum {
     FLAG_MORE_DATA = 4,
     FLAG_EXTRA_FOLLOWS = 8,
     EXTRA_GSO = 1,
-    GSO_SIZE = 1460,
-    GSO_TCPV4 = 1,
+
+    /* Every octet of a page that is posted on, so that one left unwritten shows. */
+    OLD_OCTET = 0xa5,
 
     /* From slot to slot parts begin at another cache line, from place to place frames. */
     OFFSET_STEP = 64,
@@ -43,7 +44,7 @@ static uint32_t slots_of(const struct row *row)
     return row->data_slots + row->extras;
 }
 
-/* Whether the calls of a row take slots off the ring. */
+/* Whether the calls of a row take slots off the ring, or post some. */
 static bool is_fruitful(const struct row *row)
 {
     return row->answer == TOLLMEANDER_DONE || row->answer == TOLLMEANDER_SPOILED;
@@ -81,8 +82,8 @@ static void post_extra(struct scene *scene, uint32_t n)
     uint8_t *slot = slot_at(scene, n, TOLLMEANDER_TRANSMIT_SLOT_SIZE);
 
     slot[0] = EXTRA_GSO;
-    put16(slot + 2, GSO_SIZE);
-    slot[4] = GSO_TCPV4;
+    put16(slot + 2, SCENE_GSO_SIZE);
+    slot[4] = SCENE_GSO_TYPE;
 }
 
 /* Posts data slot k of a packet, with counter n; its part goes to a place in the frame. */
@@ -121,42 +122,75 @@ static void post_packet(struct scene *scene, uint32_t n)
     }
 }
 
-static void post_requests(struct scene *scene, uint32_t n)
+/* Adds the copies of a frame that goes to as many pages as it takes, from that of slot n on. */
+static void add_pieces(struct scene *scene, uint32_t n)
 {
-    const struct row *row = scene->row;
-    uint32_t place = 0;
+    uint32_t total = scene->row->total;
+    uint32_t piece;
 
-    for (uint32_t k = 0; k < row->data_slots; k++, n++) {
-        uint8_t *slot = slot_at(scene, n, TOLLMEANDER_RECEIVE_SLOT_SIZE);
-        uint32_t left = row->total - place;
-        uint32_t piece = left < TOLLMEANDER_PAGE_SIZE ? left : TOLLMEANDER_PAGE_SIZE;
-        uint32_t page = n % SCENE_PAGES;
+    for (uint32_t place = 0; place < total; place += piece) {
+        uint32_t left = total - place;
 
-        put16(slot, n);
-        put32(slot + 4, page);
-        add_copy(scene, page * TOLLMEANDER_PAGE_SIZE, place, piece);
-        place += piece;
+        piece = left < TOLLMEANDER_PAGE_SIZE ? left : TOLLMEANDER_PAGE_SIZE;
+        add_copy(scene, n++ % SCENE_PAGES * TOLLMEANDER_PAGE_SIZE, place, piece);
     }
 }
 
-/* Fills a ring page with packets or requests. */
+static void post_requests(struct scene *scene, uint32_t n)
+{
+    add_pieces(scene, n);
+    for (uint32_t k = 0; k < scene->row->data_slots; k++, n++) {
+        uint8_t *slot = slot_at(scene, n, TOLLMEANDER_RECEIVE_SLOT_SIZE);
+
+        put16(slot, n);
+        put32(slot + 4, n % SCENE_PAGES);
+    }
+}
+
+/* Writes the references for posts. */
+static void refer(struct scene *scene)
+{
+    const struct row *row = scene->row;
+    uint32_t *last = scene->references + scene->counter % SCENE_PAGES + row->data_slots - 1;
+
+    for (uint32_t i = 0; i < SCENE_REFERENCES; i++)
+        scene->references[i] = i % SCENE_PAGES;
+    if (row->answer == TOLLMEANDER_BAD_PAGES)
+        *last = *(last - 1);
+}
+
+/* Fills a ring page with packets or requests, or leaves it to be posted on. */
 static void post_all(struct scene *scene)
 {
     const struct row *row = scene->row;
     uint32_t runs = is_fruitful(row) ? scene->calls : 1;
 
-    memset(scene->filled, 0, sizeof scene->filled);
+    memset(scene->filled, row->way == POST ? OLD_OCTET : 0, sizeof scene->filled);
     for (uint32_t i = 0; i < runs; i++) {
         uint32_t n = scene->counter + i * slots_of(row);
 
         if (row->way == TRANSMIT)
             post_packet(scene, n);
-        else
+        else if (row->way == RECEIVE)
             post_requests(scene, n);
+        else
+            add_pieces(scene, n);
     }
     put32(scene->filled + TOLLMEANDER_RING_REQ_PROD, scene->counter + scene->posted);
+    put32(scene->filled + TOLLMEANDER_RING_REQ_EVENT, scene->counter + runs * slots_of(row));
     put32(scene->filled + TOLLMEANDER_RING_RSP_PROD, scene->counter);
     put32(scene->filled + TOLLMEANDER_RING_RSP_EVENT, scene->counter + scene->posted);
+}
+
+/* The slots on a ring before the first call. */
+static uint32_t posted_at_first(const struct scene *scene)
+{
+    const struct row *row = scene->row;
+    uint32_t slots = is_fruitful(row) ? scene->calls * slots_of(row) : slots_of(row) - 1;
+
+    if (row->way != POST)
+        return slots;
+    return row->answer == TOLLMEANDER_NO_SLOTS ? TOLLMEANDER_RING_SLOTS - slots : 0;
 }
 
 /* A grant to each page of the window, then a word that grants nothing. */
@@ -169,16 +203,15 @@ static void grant_all(struct scene *scene)
 
 void scene_make(struct scene *scene, const struct row *row, unsigned place)
 {
-    uint32_t slots = slots_of(row);
-
     scene->row = row;
     scene->counter = (uint32_t)FIRST_COUNTER;
-    scene->calls = is_fruitful(row) ? TOLLMEANDER_RING_SLOTS / slots : FRUITLESS_CALLS;
-    scene->posted = is_fruitful(row) ? scene->calls * slots : slots - 1;
+    scene->calls = is_fruitful(row) ? TOLLMEANDER_RING_SLOTS / slots_of(row) : FRUITLESS_CALLS;
+    scene->posted = posted_at_first(scene);
     scene->frame = scene->frame_room + place * FRAME_STEP % TOLLMEANDER_PAGE_SIZE;
     scene->frame_len = row->way == TRANSMIT ? SCENE_FRAME : row->total;
     scene->copies = 0;
     grant_all(scene);
+    refer(scene);
     post_all(scene);
     scene_fill(scene);
 }

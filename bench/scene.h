@@ -11,22 +11,30 @@ enum {
     SCENE_RINGS = 4,
     /* Each slot names a page of its own, by a reference of the page's number. */
     SCENE_PAGES = TOLLMEANDER_RING_SLOTS,
-    SCENE_FRAME = 16 * TOLLMEANDER_PAGE_SIZE
+    SCENE_FRAME_PAGES = 16,
+    SCENE_FRAME = SCENE_FRAME_PAGES * TOLLMEANDER_PAGE_SIZE,
+    /* A frame that begins with the last page goes on with the first ones. */
+    SCENE_REFERENCES = SCENE_PAGES + SCENE_FRAME_PAGES - 1,
+    /* The gso of packets that have an extra, TCP over IPv4. */
+    SCENE_GSO_SIZE = 1460,
+    SCENE_GSO_TYPE = 1
 };
 
-enum way { TRANSMIT, RECEIVE };
+enum way { TRANSMIT, RECEIVE, POST };
 
 /*
  * A kind of call. Where it is answered DONE or SPOILED, a ring holds packets or
  * requests for as many calls as it has slots for; where something is missing,
- * the slots for one call but the last.
+ * the slots for one call but the last. A ring that is posted on has all slots
+ * free or, where they are too few, those for one call but the last; where two
+ * references name one page, they are the last two of the frame.
  */
 struct row {
     const char *name;
     enum way way;
     uint32_t answer;
     uint32_t total;             /* bytes of a frame */
-    uint32_t data_slots;        /* of a packet; or requests for a frame */
+    uint32_t data_slots;        /* of a packet; or requests for a frame; or its pages */
     uint32_t extras;            /* of a packet */
     uint32_t offset;            /* least offset of a part */
 };
@@ -46,10 +54,11 @@ struct scene {
     uint8_t frame_room[SCENE_FRAME + TOLLMEANDER_PAGE_SIZE];
     uint8_t *frame;                             /* somewhere in the room for it */
     uint8_t grants[(SCENE_PAGES + 1) * TOLLMEANDER_GRANT_WORD_SIZE];
+    uint32_t references[SCENE_REFERENCES];      /* for posts, from a packet's first slot on */
     size_t frame_len;
     const struct row *row;
     uint32_t counter;                           /* before the first call */
-    uint32_t posted;                            /* slots on a ring */
+    uint32_t posted;                            /* slots on a ring, before the first call */
     uint32_t calls;                             /* on a ring */
     uint32_t copies;
     struct copy copy[TOLLMEANDER_RING_SLOTS];

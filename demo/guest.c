@@ -1,21 +1,31 @@
 #include "guest.h"
 
-enum { LONGEST_BURST = 48 };
+#include <string.h>
+
+enum {
+    LONGEST_BURST = 48,     /* of slots */
+    MOST_PACKETS = 24,      /* of a burst of packets */
+    WRITABLE = TOLLMEANDER_GRANTED | TOLLMEANDER_GRANT_WRITABLE
+};
 
 void guest_open(struct guest *guest, const struct traffic *traffic, struct events *events,
                 uint32_t counter)
 {
-    guest_pages_open(&guest->pages);
-    sender_open(&guest->sender, &guest->transmit_page, &guest->pages, traffic, counter);
+    memset(guest, 0, sizeof *guest);
+    guest->posts = traffic->plain;
+    guest_pages_open(&guest->pages, guest->posts ? WRITABLE : TOLLMEANDER_GRANTED);
+    if (guest->posts)
+        poster_open(&guest->poster, &guest->transmit_page, &guest->pages, traffic, counter);
+    else
+        sender_open(&guest->sender, &guest->transmit_page, &guest->pages, traffic, counter);
     receiver_open(&guest->receiver, &guest->receive_page, &guest->pages, traffic, counter);
     guest->events = events;
     guest->rng = rng_of(traffic->seed, UINT64_MAX);
-    guest->asleep = false;
 }
 
-static void publish(struct guest *guest, struct front_ring *ring, uint32_t count)
+static void publish(struct guest *guest, struct slot_ring *ring, uint32_t count)
 {
-    if (front_ring_publish(ring, count))
+    if (slot_ring_publish(ring, count))
         events_notify_host(guest->events);
 }
 
@@ -28,7 +38,7 @@ static void post_buffers(struct guest *guest)
 /* Writes some slots and publishes a piece of what is written. */
 static void post_slots(struct guest *guest)
 {
-    struct front_ring *ring = &guest->sender.ring;
+    struct slot_ring *ring = &guest->sender.ring;
     uint32_t unpublished, piece;
 
     sender_write(&guest->sender, rng_below(&guest->rng, LONGEST_BURST));
@@ -39,6 +49,17 @@ static void post_slots(struct guest *guest)
     publish(guest, ring, piece);
 }
 
+/* Posts some whole packets, as far as the ring takes them. */
+static void post_packets(struct guest *guest)
+{
+    uint32_t left = rng_below(&guest->rng, MOST_PACKETS);
+    bool notify;
+
+    for (; left > 0 && poster_post(&guest->poster, &notify); left--)
+        if (notify)
+            events_notify_host(guest->events);
+}
+
 /* Whether the guest has published what it has written, and waits for a reply or is finished. */
 static bool has_sent(const struct sender *sender)
 {
@@ -46,25 +67,60 @@ static bool has_sent(const struct sender *sender)
            (sender->complete != sender->ring.replied || sender_is_finished(sender));
 }
 
+/* The same, of a guest that posts whole packets. */
+static bool has_posted(const struct poster *poster)
+{
+    return poster_in_flight(poster) > 0 || poster_is_finished(poster);
+}
+
 /* Whether there is nothing to do, now that the guest has asked for events. */
 static bool may_sleep(struct guest *guest)
 {
-    bool no_replies = front_ring_await(&guest->sender.ring, 1);
-    bool no_frames = front_ring_await(&guest->receiver.ring, 1);
+    bool no_replies = guest->posts ? front_ring_await(&guest->poster.ring, 1)
+                                   : slot_ring_await(&guest->sender.ring, 1);
+    bool no_frames = slot_ring_await(&guest->receiver.ring, 1);
 
-    return no_replies && no_frames && has_sent(&guest->sender);
+    return no_replies && no_frames &&
+           (guest->posts ? has_posted(&guest->poster) : has_sent(&guest->sender));
+}
+
+/* Whether the guest does nothing more: it crashed, or got an answer that must not come. */
+static bool has_stopped(const struct guest *guest)
+{
+    return guest->posts ? guest->poster.unexpected > 0 : guest->sender.crashed;
 }
 
 bool guest_turn(struct guest *guest)
 {
-    if (guest->sender.crashed || (guest->asleep && !guest->events->guest_pending))
+    if (has_stopped(guest) || (guest->asleep && !guest->events->guest_pending))
         return false;
     guest->asleep = false;
     guest->events->guest_pending = false;
-    sender_collect(&guest->sender);
+    if (guest->posts)
+        poster_collect(&guest->poster);
+    else
+        sender_collect(&guest->sender);
     receiver_collect(&guest->receiver);
     post_buffers(guest);
-    post_slots(guest);
+    if (guest->posts)
+        post_packets(guest);
+    else
+        post_slots(guest);
     guest->asleep = may_sleep(guest);
     return true;
+}
+
+bool guest_is_finished(const struct guest *guest)
+{
+    return guest->posts ? poster_is_finished(&guest->poster) : sender_is_finished(&guest->sender);
+}
+
+uint32_t guest_in_flight(const struct guest *guest)
+{
+    return guest->posts ? poster_in_flight(&guest->poster) : sender_in_flight(&guest->sender);
+}
+
+uint64_t guest_wrong_replies(const struct guest *guest)
+{
+    return guest->posts ? guest->poster.wrong_replies : guest->sender.wrong_replies;
 }

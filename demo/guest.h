@@ -1,6 +1,7 @@
 /*
  * A simulated guest: sends its traffic, posts buffers and checks the frames that come back. It
- * sleeps when there is nothing to do, and only an event wakes it.
+ * sleeps when there is nothing to do, and only an event wakes it. Plain traffic goes by its poster,
+ * other traffic by its sender.
  */
 #ifndef GUEST_H
 #define GUEST_H
@@ -10,6 +11,7 @@
 
 #include "events.h"
 #include "guest_pages.h"
+#include "poster.h"
 #include "receiver.h"
 #include "ring_page.h"
 #include "rng.h"
@@ -20,6 +22,8 @@ struct guest {
     struct ring_page transmit_page;     /* shared with the host */
     struct ring_page receive_page;      /* shared with the host */
     struct guest_pages pages;
+    bool posts;                         /* by the poster; else the sender writes slots */
+    struct poster poster;
     struct sender sender;
     struct receiver receiver;
     struct events *events;
@@ -33,5 +37,14 @@ void guest_open(struct guest *guest, const struct traffic *traffic, struct event
 
 /* Does a piece of the guest's work, if it is awake; whether it was. */
 bool guest_turn(struct guest *guest);
+
+/* Whether the guest sends nothing more. */
+bool guest_is_finished(const struct guest *guest);
+
+/* Transmit slots without a reply. */
+uint32_t guest_in_flight(const struct guest *guest);
+
+/* Replies to packets that are not as they must be. */
+uint64_t guest_wrong_replies(const struct guest *guest);
 
 #endif

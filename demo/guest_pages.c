@@ -41,12 +41,12 @@ uint8_t *guest_receive_page(struct guest_pages *pages, uint32_t n)
     return pages->window + TOLLMEANDER_PAGE_SIZE * receive_page_number(n);
 }
 
-void guest_pages_open(struct guest_pages *pages)
+void guest_pages_open(struct guest_pages *pages, uint32_t transmit_access)
 {
     memset(pages, 0, sizeof *pages);
     for (uint32_t n = 0; n < TOLLMEANDER_RING_SLOTS; n++) {
         grant_table_set(pages->grants, guest_transmit_gref(n), transmit_page_number(n),
-                        TOLLMEANDER_GRANTED);
+                        transmit_access);
         grant_table_set(pages->grants, guest_receive_gref(n), receive_page_number(n),
                         TOLLMEANDER_GRANTED | TOLLMEANDER_GRANT_WRITABLE);
     }

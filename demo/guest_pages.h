@@ -16,8 +16,11 @@ struct guest_pages {
     uint8_t window[GUEST_PAGES * TOLLMEANDER_PAGE_SIZE];
 };
 
-/* Grants the transmit pages to be read and the receive pages to be written. */
-void guest_pages_open(struct guest_pages *pages);
+/*
+ * Grants the transmit pages with an access, which is TOLLMEANDER_GRANTED, with
+ * TOLLMEANDER_GRANT_WRITABLE if they may be written, and the receive pages to be written.
+ */
+void guest_pages_open(struct guest_pages *pages, uint32_t transmit_access);
 
 /* The memory as the host lends it to the library. */
 struct guest_memory guest_pages_memory(struct guest_pages *pages);

@@ -2,6 +2,9 @@
  * Eight guests, eight devices and the host between them, in one process. Each guest shares two
  * ring pages with the host. They take turns; a side that sleeps runs again only when the other
  * has notified it, so a missing notification shows as packets that never arrive.
+ *
+ * The five sound guests post whole frames by host/front_ring. The three others, whose packets have
+ * faults that tollmeander_transmit_post does not make, write slots of every good shape by hand.
  */
 #include <inttypes.h>
 #include <stdbool.h>
@@ -51,6 +54,7 @@ static struct traffic plan_traffic(unsigned i, const struct options *options)
         traffic.fault_first %= CARELESS_STEP;
         traffic.fault_step = CARELESS_STEP;
     }
+    traffic.plain = traffic.fault == FAULT_NONE;
     return traffic;
 }
 

@@ -63,7 +63,8 @@ static bool check_guest(unsigned number, const struct outcome *expected, const s
 {
     bool right = true;
 
-    right &= agree(number, "wrong replies to packets", guest->sender.wrong_replies, 0);
+    right &= agree(number, "wrong replies to packets", guest_wrong_replies(guest), 0);
+    right &= agree(number, "unexpected answers to posts", guest->poster.unexpected, 0);
     right &= agree(number, "wrong replies to buffers", guest->receiver.wrong_replies, 0);
     right &= agree(number, "wrong frames at the guest", guest->receiver.wrong_frames, 0);
     if (!guest->sender.crashed) {
@@ -71,8 +72,7 @@ static bool check_guest(unsigned number, const struct outcome *expected, const s
         right &= agree(number, "frames dropped", vif->dropped, 0);
     }
     if (expected->last_answer == TOLLMEANDER_EMPTY)
-        right &= agree(number, "slots without a reply",
-                       guest->sender.ring.published - guest->sender.ring.replied, 0);
+        right &= agree(number, "slots without a reply", guest_in_flight(guest), 0);
     return right;
 }
 

@@ -8,7 +8,7 @@ void receiver_open(struct receiver *receiver, struct ring_page *shared, struct g
                    const struct traffic *traffic, uint32_t counter)
 {
     memset(receiver, 0, sizeof *receiver);
-    front_ring_open(&receiver->ring, shared, RECEIVE_SLOT_WORDS, counter);
+    slot_ring_open(&receiver->ring, shared, RECEIVE_SLOT_WORDS, counter);
     receiver->pages = pages;
     receiver->traffic = traffic;
     receiver->next = traffic_next_good(traffic, 0);
@@ -23,13 +23,13 @@ uint32_t receiver_write(struct receiver *receiver, uint32_t limit)
 {
     uint32_t count = 0;
 
-    for (; count < limit && front_ring_free(&receiver->ring) > 0; count++) {
+    for (; count < limit && slot_ring_free(&receiver->ring) > 0; count++) {
         uint32_t n = receiver->ring.written;
         uint32_t slot[RECEIVE_SLOT_WORDS] = {
             request_id(n) | 0xBEEF0000, guest_receive_gref(n)
         };
 
-        front_ring_write(&receiver->ring, slot);
+        slot_ring_write(&receiver->ring, slot);
     }
     return count;
 }
@@ -72,13 +72,13 @@ static void take_piece(struct receiver *receiver, uint32_t n, const uint32_t *sl
 
 uint32_t receiver_collect(struct receiver *receiver)
 {
-    uint32_t count = front_ring_replies(&receiver->ring);
+    uint32_t count = slot_ring_replies(&receiver->ring);
 
     for (uint32_t i = 0; i < count; i++) {
         uint32_t n = receiver->ring.replied;
         uint32_t slot[RECEIVE_SLOT_WORDS];
 
-        front_ring_read(&receiver->ring, slot);
+        slot_ring_read(&receiver->ring, slot);
         if (is_right_reply(receiver, n, slot))
             take_piece(receiver, n, slot);
         else

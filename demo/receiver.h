@@ -5,12 +5,12 @@
 #include <stdbool.h>
 #include <stdint.h>
 
-#include "front_ring.h"
+#include "slot_ring.h"
 #include "guest_pages.h"
 #include "traffic.h"
 
 struct receiver {
-    struct front_ring ring;
+    struct slot_ring ring;
     struct guest_pages *pages;
     const struct traffic *traffic;
     uint64_t next;          /* the packet whose frame comes next */

@@ -10,7 +10,7 @@ void sender_open(struct sender *sender, struct ring_page *shared, struct guest_p
                  const struct traffic *traffic, uint32_t counter)
 {
     memset(sender, 0, sizeof *sender);
-    front_ring_open(&sender->ring, shared, TRANSMIT_SLOT_WORDS, counter);
+    slot_ring_open(&sender->ring, shared, TRANSMIT_SLOT_WORDS, counter);
     sender->pages = pages;
     sender->traffic = traffic;
     sender->complete = counter;
@@ -61,7 +61,7 @@ static void write_data(struct sender *sender, uint32_t index)
     memcpy(guest_transmit_page(sender->pages, n) + packet->offset[index],
            sender->frame + from, packet->part[index]);
     expect(sender, n, id, spoiled ? TOLLMEANDER_REPLY_ERROR : TOLLMEANDER_REPLY_OKAY);
-    front_ring_write(&sender->ring, slot);
+    slot_ring_write(&sender->ring, slot);
 }
 
 /* Writes an extra. Only the last one's gso counts. */
@@ -76,7 +76,7 @@ static void write_extra(struct sender *sender, bool last)
     };
 
     expect(sender, sender->ring.written, 0, TOLLMEANDER_REPLY_NULL);
-    front_ring_write(&sender->ring, slot);
+    slot_ring_write(&sender->ring, slot);
 }
 
 /* Writes the next slot of the packet; the guest of the story crashes before its last. */
@@ -105,7 +105,7 @@ uint32_t sender_write(struct sender *sender, uint32_t limit)
 {
     uint32_t count = 0;
 
-    while (count < limit && front_ring_free(&sender->ring) > 0 && !sender_is_finished(sender)) {
+    while (count < limit && slot_ring_free(&sender->ring) > 0 && !sender_is_finished(sender)) {
         struct packet *packet = &sender->packet;
 
         if (sender->place == 0) {
@@ -120,18 +120,23 @@ uint32_t sender_write(struct sender *sender, uint32_t limit)
 
 uint32_t sender_collect(struct sender *sender)
 {
-    uint32_t count = front_ring_replies(&sender->ring);
+    uint32_t count = slot_ring_replies(&sender->ring);
 
     for (uint32_t i = 0; i < count; i++) {
         uint32_t n = sender->ring.replied;
         const struct expected_reply *expected = &sender->expected[n % TOLLMEANDER_RING_SLOTS];
         uint32_t slot[TRANSMIT_SLOT_WORDS];
 
-        front_ring_read(&sender->ring, slot);
+        slot_ring_read(&sender->ring, slot);
         if (slot[0] != (expected->id | (uint32_t)(uint16_t)expected->status << 16))
             sender->wrong_replies++;
     }
     return count;
+}
+
+uint32_t sender_in_flight(const struct sender *sender)
+{
+    return sender->ring.written - sender->ring.replied;
 }
 
 bool sender_is_finished(const struct sender *sender)

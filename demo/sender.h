@@ -1,11 +1,14 @@
-/* A simulated guest's transmit side: lays frames into granted pages and posts their slots. */
+/*
+ * A simulated guest's transmit side, slot by slot: lays parts of frames into granted pages and
+ * writes the slots by hand, also those of packets that have a fault.
+ */
 #ifndef SENDER_H
 #define SENDER_H
 
 #include <stdbool.h>
 #include <stdint.h>
 
-#include "front_ring.h"
+#include "slot_ring.h"
 #include "guest_pages.h"
 #include "traffic.h"
 
@@ -16,7 +19,7 @@ struct expected_reply {
 };
 
 struct sender {
-    struct front_ring ring;
+    struct slot_ring ring;
     struct guest_pages *pages;
     const struct traffic *traffic;
     uint64_t sent;          /* packets written whole */
@@ -37,6 +40,9 @@ uint32_t sender_write(struct sender *sender, uint32_t limit);
 
 /* Reads and checks the replies that have come; their number. */
 uint32_t sender_collect(struct sender *sender);
+
+/* Slots without a reply. */
+uint32_t sender_in_flight(const struct sender *sender);
 
 /* Whether there is nothing more to write. */
 bool sender_is_finished(const struct sender *sender);

@@ -33,8 +33,7 @@ void table_print_head(void)
 /* Whether a guest has sent all its packets and got back each frame that was handed over. */
 static bool is_served(const struct guest *guest, const struct vif *vif)
 {
-    return sender_is_finished(&guest->sender) &&
-           guest->sender.ring.replied == guest->sender.ring.written &&
+    return guest_is_finished(guest) && guest_in_flight(guest) == 0 &&
            guest->receiver.frames == vif->device.frames;
 }
 

@@ -75,9 +75,15 @@ static void shift_bytes(struct packet *packet, struct rng *rng)
     *to += moved;
 }
 
+/* The pages that a frame fills. */
+static uint32_t pages_of(uint32_t length)
+{
+    return (length + TOLLMEANDER_PAGE_SIZE - 1) / TOLLMEANDER_PAGE_SIZE;
+}
+
 static void pick_parts(struct packet *packet, struct rng *rng)
 {
-    uint32_t need = (packet->length + TOLLMEANDER_PAGE_SIZE - 1) / TOLLMEANDER_PAGE_SIZE;
+    uint32_t need = pages_of(packet->length);
     uint32_t spare = TOLLMEANDER_PACKET_DATA_MAX - need;
     uint32_t left = packet->length;
 
@@ -92,6 +98,20 @@ static void pick_parts(struct packet *packet, struct rng *rng)
         shift_bytes(packet, rng);
     for (uint32_t i = 0; i < packet->data_slots; i++)
         packet->offset[i] = rng_below(rng, TOLLMEANDER_PAGE_SIZE - packet->part[i] + 1);
+}
+
+/* A data slot for each page that the frame fills, one extra at most, no flags. */
+static void make_plain(struct packet *packet)
+{
+    uint32_t left = packet->length;
+
+    packet->flags = 0;
+    packet->extras = packet->extras > 0;
+    packet->data_slots = pages_of(packet->length);
+    for (uint32_t i = 0; i < packet->data_slots; i++) {
+        packet->part[i] = left < TOLLMEANDER_PAGE_SIZE ? left : TOLLMEANDER_PAGE_SIZE;
+        left -= packet->part[i];
+    }
 }
 
 static void make_faulty(struct packet *packet)
@@ -116,7 +136,10 @@ void traffic_packet(const struct traffic *traffic, uint64_t number, struct packe
     packet->length = pick_length(&rng);
     packet->flags = rng_below(&rng, 4) & (CHECKSUM_BLANK | DATA_VALIDATED);
     pick_extras(packet, &rng);
-    pick_parts(packet, &rng);
+    if (traffic->plain)
+        make_plain(packet);
+    else
+        pick_parts(packet, &rng);
 }
 
 /* The pool's bytes that a frame is cut from. */

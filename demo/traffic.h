@@ -32,6 +32,7 @@ struct traffic {
     const struct frame_pool *pool;
     uint64_t seed;
     uint64_t packets;       /* numbered from 0 */
+    bool plain;             /* laid out as tollmeander_transmit_post does; then no fault */
     enum fault fault;
     uint64_t fault_first;   /* the first packet with the fault */
     uint64_t fault_step;    /* from one such packet to the next; 0 if there is one only */

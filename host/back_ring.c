@@ -4,28 +4,14 @@
 
 #include "ring_page.h"
 
-/* A word of the private page. */
-static uint32_t private_word(const struct back_ring *ring, uint32_t at)
-{
-    uint32_t word;
-
-    memcpy(&word, ring->page + RING_WORD * at, sizeof word);
-    return word;
-}
-
-static void set_private_word(struct back_ring *ring, uint32_t at, uint32_t word)
-{
-    memcpy(ring->page + RING_WORD * at, &word, sizeof word);
-}
-
 static void open_ring(struct back_ring *ring, void *shared, uint32_t counter)
 {
     memset(ring, 0, sizeof *ring);
     ring->shared = shared;
     ring->copied = counter;
     ring->consumed = counter;
-    set_private_word(ring, RING_REQ_PROD, counter);
-    set_private_word(ring, RING_RSP_PROD, counter);
+    set_private_word(ring->page, RING_REQ_PROD, counter);
+    set_private_word(ring->page, RING_RSP_PROD, counter);
 }
 
 void back_ring_open_transmit(struct back_ring *ring, void *shared, uint32_t counter)
@@ -49,8 +35,8 @@ static void copy_slots(struct back_ring *ring, uint32_t end)
         uint32_t first = ring_slot(ring->slot_words, ring->copied);
 
         for (uint32_t at = first; at < first + ring->slot_words; at++)
-            set_private_word(ring, at, atomic_load_explicit(&ring->shared->word[at],
-                                                            memory_order_relaxed));
+            set_private_word(ring->page, at, atomic_load_explicit(&ring->shared->word[at],
+                                                                  memory_order_relaxed));
     }
 }
 
@@ -70,7 +56,7 @@ static bool look(struct back_ring *ring)
         req_prod = known;
     else if (posted <= TOLLMEANDER_RING_SLOTS)
         copy_slots(ring, req_prod);
-    set_private_word(ring, RING_REQ_PROD, req_prod);
+    set_private_word(ring->page, RING_REQ_PROD, req_prod);
     return req_prod != known;
 }
 
@@ -81,7 +67,7 @@ static void publish_replies(struct back_ring *ring, uint32_t slots)
         uint32_t first = ring_slot(ring->slot_words, n);
 
         for (uint32_t at = first; at < first + ring->reply_words; at++)
-            atomic_store_explicit(&ring->shared->word[at], private_word(ring, at),
+            atomic_store_explicit(&ring->shared->word[at], private_word(ring->page, at),
                                   memory_order_relaxed);
     }
     atomic_store_explicit(&ring->shared->word[RING_RSP_PROD], ring->consumed,
@@ -103,7 +89,7 @@ static bool guest_waits(struct back_ring *ring, uint32_t slots)
 static void publish_event(struct back_ring *ring)
 {
     atomic_store_explicit(&ring->shared->word[RING_REQ_EVENT],
-                          private_word(ring, RING_REQ_EVENT), memory_order_relaxed);
+                          private_word(ring->page, RING_REQ_EVENT), memory_order_relaxed);
     /* Either we read the req_prod that the guest has just written, or it reads our req_event. */
     atomic_thread_fence(memory_order_seq_cst);
 }

@@ -36,19 +36,12 @@
 #include <stddef.h>
 #include <stdint.h>
 
+#include "guest_memory.h"
 #include "tollmeander.h"
 
 #ifdef __cplusplus
 extern "C" {
 #endif
-
-/* A guest's memory as the host has mapped it; see tollmeander.h, "Grants and window". */
-struct guest_memory {
-    const uint8_t *grants;
-    size_t grants_len;
-    uint8_t *window;
-    size_t window_len;
-};
 
 /* One ring. The fields are for back_ring.c; a host may read consumed and halted. */
 struct back_ring {

@@ -10,6 +10,7 @@
 
 #include <stdatomic.h>
 #include <stdint.h>
+#include <string.h>
 
 #include "tollmeander.h"
 
@@ -41,6 +42,20 @@ _Static_assert(__BYTE_ORDER__ == __ORDER_LITTLE_ENDIAN__, "the words of a ring a
 static inline uint32_t ring_slot(uint32_t slot_words, uint32_t n)
 {
     return RING_FIRST_SLOT + slot_words * (n % TOLLMEANDER_RING_SLOTS);
+}
+
+/* A word of a private page, which the other side has not mapped and the library is lent. */
+static inline uint32_t private_word(const uint8_t *page, uint32_t at)
+{
+    uint32_t word;
+
+    memcpy(&word, page + RING_WORD * at, sizeof word);
+    return word;
+}
+
+static inline void set_private_word(uint8_t *page, uint32_t at, uint32_t word)
+{
+    memcpy(page + RING_WORD * at, &word, sizeof word);
 }
 
 #endif

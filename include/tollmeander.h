@@ -1,12 +1,15 @@
 /******************************************************************************
  * tollmeander.h
  *
- * The backend side of one Xen network queue, in two calls:
+ * The backend side of one Xen network queue, in two calls, and a call for the
+ * guest's side:
  *
  *   tollmeander_transmit_take   takes at most one packet off a transmit ring
  *                               (guest to host) and joins it to a frame
  *   tollmeander_receive_put     puts at most one frame onto a receive ring
  *                               (host to guest)
+ *   tollmeander_transmit_post   lays one frame into granted pages and posts it
+ *                               on a transmit ring as one packet
  *
  * Layouts and flags are those of Xen's public netif.h and ring.h. All integers
  * in the memory that the host lends are little-endian.
@@ -48,6 +51,8 @@ extern "C" {
  * | not used                                      |  up to 4095
  * +-----+-----+-----+-----+-----+-----+-----+-----+
  *
+ * What take and put do with them:
+ *
  * req_prod:  slots that the guest has ever posted. Read, never written.
  * req_event: the guest notifies the host when req_prod passes this. Written by
  *            EMPTY, WAITING and NO_BUFFERS (as req_prod + 1), never read.
@@ -55,6 +60,10 @@ extern "C" {
  *            SPOILED, never read.
  * rsp_event: the host notifies the guest when rsp_prod passes this. Read,
  *            never written.
+ *
+ * post, on the guest's side, reads and (when DONE) writes req_prod, reads
+ * req_event, and does not look at the other two.
+ *
  * slot n:    at 64 + 12 * (n % 256) on a transmit ring, at
  *            64 + 8 * (n % 256) on a receive ring.
  *
@@ -124,7 +133,7 @@ extern "C" {
 #define TOLLMEANDER_FRAME_MIN           14u
 #define TOLLMEANDER_FRAME_MAX           65535u
 
-/* Statuses of replies. DROPPED is Xen's; these two calls do not write it. */
+/* Statuses of replies. DROPPED is Xen's; no call here writes it. */
 #define TOLLMEANDER_REPLY_OKAY          0
 #define TOLLMEANDER_REPLY_ERROR         (-1)
 #define TOLLMEANDER_REPLY_DROPPED       (-2)
@@ -205,20 +214,22 @@ extern "C" {
  * Ten words of 32 bits in the byte order of the CPU. Every call writes all of
  * them; a field that an answer does not speak of is 0.
  *
- * answer:         TOLLMEANDER_DONE to TOLLMEANDER_NO_BUFFERS; what the call
- *                 also returns.
+ * answer:         TOLLMEANDER_DONE to TOLLMEANDER_BAD_GSO; what the call also
+ *                 returns.
  * cause:          SPOILED only, TOLLMEANDER_CAUSE_*.
  * place:          SPOILED only, for the causes GRANT, OFFSET and GSO: which slot
  *                 of the packet (extras counted) or of the frame's requests, the
  *                 first being 0.
- * slots:          DONE and SPOILED: slots consumed and replied to.
+ * slots:          DONE and SPOILED: slots consumed and replied to. DONE of post:
+ *                 slots posted.
  * notify:         DONE and SPOILED: 1 if the guest asked to be notified of these
- *                 replies, by the rsp_event in the lent page.
- * total:          DONE: octets of the frame.
- * checksum_blank: DONE on transmit: the guest left the checksum to the host.
- * data_validated: DONE on transmit: the guest says that the data is sound.
- * gso_size:       DONE on transmit: the segment size to cut the frame to, or 0.
- * gso_type:       DONE on transmit: 1 TCP over IPv4, 2 TCP over IPv6, 0 no gso.
+ *                 replies, by the rsp_event in the lent page. DONE of post: 1 if
+ *                 the backend asked to be notified of these slots, by req_event.
+ * total:          DONE of take and put: octets of the frame.
+ * checksum_blank: DONE of take: the guest left the checksum to the host.
+ * data_validated: DONE of take: the guest says that the data is sound.
+ * gso_size:       DONE of take: the segment size to cut the frame to, or 0.
+ * gso_type:       DONE of take: 1 TCP over IPv4, 2 TCP over IPv6, 0 no gso.
  *
  * NOTE: notify is as old as the page that was lent. On a private copy of the
  *       page, ask again as duty 5 below says.
@@ -253,7 +264,8 @@ struct tollmeander_report {
  * of every buffer, the counter and the mark.
  */
 
-/* The slots are consumed and replied to, the frame is handed over. */
+/* The slots are consumed and replied to, the frame is handed over. Of post: the
+ * frame is in its pages and its slots are posted. */
 #define TOLLMEANDER_DONE                0u
 /* ring_len is not 4096. Nothing is changed. */
 #define TOLLMEANDER_BAD_PAGE            1u
@@ -273,11 +285,21 @@ struct tollmeander_report {
 /* Transmit: a good packet, but frame_len is less than its total. Nothing is
  * changed; call again with a longer buffer. */
 #define TOLLMEANDER_NO_ROOM             8u
-/* Receive: frame_len is not 14 to 65535. Nothing is changed. */
+/* Receive and post: frame_len is not 14 to 65535. Nothing is changed. */
 #define TOLLMEANDER_BAD_LENGTH          9u
 /* Receive: fewer requests are posted than the frame has pages. req_event is
  * set; the frame is still the host's. */
 #define TOLLMEANDER_NO_BUFFERS          10u
+/* Post: fewer slots are free than the packet has. Nothing is changed; read the
+ * replies that have come, and call again. (With a count that is past req_prod, or
+ * more than 256 behind it, none is ever free: the count is wrong.) */
+#define TOLLMEANDER_NO_SLOTS            11u
+/* Post: the list is shorter than the frame has pages, a reference that the frame
+ * uses is not fit for receive, or two of them name one page. Nothing is changed. */
+#define TOLLMEANDER_BAD_PAGES           12u
+/* Post: gso is asked for with a size of 0, or a type that is neither 1 nor 2.
+ * Nothing is changed. */
+#define TOLLMEANDER_BAD_GSO             13u
 
 /*
  * Causes of SPOILED, in the order in which they are looked for. On receive only
@@ -300,12 +322,12 @@ struct tollmeander_report {
  *
  * 1. Pointers. Every pointer is valid for its length, for reading and, where it
  *    is not const, for writing, and is never null: also not where the length is
- *    0. consumed, halted and report stand at addresses divisible by 4. The byte
- *    buffers may stand at any address.
+ *    0. consumed, halted, references and report stand at addresses divisible by 4.
+ *    The byte buffers may stand at any address.
  *
  * 2. No overlap. No two of the things lent in one call share an octet: ring
- *    page, grant table, window, frame buffer, counter, mark and report. In
- *    particular the ring page is not a page of the window.
+ *    page, grant table, window, frame buffer, references, counter, mark and report.
+ *    In particular the ring page is not a page of the window.
  *
  * 3. Nobody else writes. While a call runs, no other thread, no device and no
  *    guest writes what is lent, and nobody reads what the call may write. The
@@ -419,6 +441,69 @@ uint32_t tollmeander_receive_put(uint32_t *consumed, uint32_t *halted,
                                  uint8_t *window, size_t window_len,
                                  const uint8_t *frame, size_t frame_len,
                                  struct tollmeander_report *report);
+
+/*
+ * The guest's side: lays a frame into granted pages, 4096 octets to a page from
+ * octet 0 of the page on, the last perhaps shorter, and posts it on a transmit
+ * ring as one packet, with a data slot for each page.
+ *
+ * replies_read:   replies that the driver has read so far, modulo 2^32. Free slots
+ *                 are 256 - (uint32_t)(req_prod - replies_read), and none where the
+ *                 difference is above 256.
+ * ring:           the ring page.
+ * grants, window: the driver's own pages and its grants to them.
+ * references:     grant references, from an address divisible by 4. The frame uses
+ *                 the first ceiling(frame_len / 4096) of them; those behind are not
+ *                 looked at.
+ * references_len: how many references, not octets.
+ * frame:          the frame, read only.
+ * gso:            0: no gso is asked for, and the next two are not looked at.
+ *                 Anything else: they are the gso, and the packet has an extra.
+ * gso_size:       the segment size, 1 or more.
+ * gso_type:       1 TCP over IPv4, 2 TCP over IPv6.
+ * report:         all of it is written.
+ *
+ * Answers, in the order in which they are looked for: BAD_PAGE, BAD_LENGTH,
+ * BAD_GSO, BAD_PAGES, NO_SLOTS, DONE.
+ *
+ * Needs:  of the driver what duties 1 to 3 of "What the host owes" say.
+ * Leaves: after DONE the frame in the pages, a slot for each page and one for the
+ *         gso, if any, from req_prod on, and req_prod behind them. Each data slot's
+ *         id is its slot counter modulo 65536, its offset 0. After every other
+ *         answer all that was lent is as it was.
+ * Never:  writes a page unless the whole packet is posted, octets of a page beyond
+ *         the piece, or a slot that is not free by replies_read; writes grants,
+ *         references or frame, req_event, rsp_prod or rsp_event.
+ *
+ * As long as the slots, req_prod, the grants and the pages are as post left them,
+ * tollmeander_transmit_take at the packet's first slot is DONE and gives the same
+ * frame and gso (unhalted, with room for the frame). No packet of that total with
+ * fewer data slots is DONE.
+ *
+ * NOTE: gso_size and gso_type are narrower than int: 65537 and 257 arrive as 1.
+ *       Test a wider number before it is passed.
+ * NOTE: checksum_blank and data_validated cannot be asked for: the two bits of the
+ *       first slot are 0, also with gso.
+ * NOTE: replies_read is the driver's own count. With rsp_prod in its place replies
+ *       are written over that the driver has not read, and the backend decides what
+ *       is free; with a count past the replies sent, slots that the backend has not
+ *       read.
+ * NOTE: A page is the packet's until its reply was read. Give each packet in
+ *       flight pages of its own.
+ * NOTE: The octets of the last page behind the piece stay as they were, and the
+ *       backend can read them. Clear them if it is not trusted.
+ * NOTE: On a page that the backend has mapped too, the slots must be seen before
+ *       req_prod, and notify must be decided after it. host/front_ring.c lends a
+ *       private page and does both. Copy it or link it.
+ */
+uint32_t tollmeander_transmit_post(uint32_t replies_read,
+                                   uint8_t *ring, size_t ring_len,
+                                   const uint8_t *grants, size_t grants_len,
+                                   uint8_t *window, size_t window_len,
+                                   const uint32_t *references, size_t references_len,
+                                   const uint8_t *frame, size_t frame_len,
+                                   uint32_t gso, uint16_t gso_size, uint8_t gso_type,
+                                   struct tollmeander_report *report);
 
 #ifdef __cplusplus
 }

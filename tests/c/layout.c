@@ -40,6 +40,9 @@ IS(TOLLMEANDER_SPOILED, 7);
 IS(TOLLMEANDER_NO_ROOM, 8);
 IS(TOLLMEANDER_BAD_LENGTH, 9);
 IS(TOLLMEANDER_NO_BUFFERS, 10);
+IS(TOLLMEANDER_NO_SLOTS, 11);
+IS(TOLLMEANDER_BAD_PAGES, 12);
+IS(TOLLMEANDER_BAD_GSO, 13);
 
 IS(TOLLMEANDER_CAUSE_SHORT, 1);
 IS(TOLLMEANDER_CAUSE_LONG, 2);
@@ -88,7 +91,9 @@ enum {
     ACCESS = TOLLMEANDER_GRANTED | TOLLMEANDER_GRANT_WRITABLE,
     MORE_DATA = 4,
     EXTRA_FOLLOWS = 8,
-    ANOTHER_EXTRA = 1
+    ANOTHER_EXTRA = 1,
+    GSO_SIZE = 1460,
+    LONGEST_PAGES = 16      /* of a frame */
 };
 
 /* What is lent, and a report between two words that must not be written. */
@@ -102,6 +107,16 @@ static struct {
     struct tollmeander_report report;
     uint32_t after;
 } lent;
+
+/* What post is lent besides: the replies read, and references, of which the first is not lent. */
+static uint32_t replies_read;
+static uint32_t references[1 + LONGEST_PAGES];
+
+/* The parameters of post, as the header declares them. */
+static uint32_t (*const declared_post)(uint32_t, uint8_t *, size_t, const uint8_t *, size_t,
+                                       uint8_t *, size_t, const uint32_t *, size_t,
+                                       const uint8_t *, size_t, uint32_t, uint16_t, uint8_t,
+                                       struct tollmeander_report *) = tollmeander_transmit_post;
 
 static void put16(uint8_t *at, uint32_t value)
 {
@@ -236,11 +251,21 @@ static uint32_t put(size_t ring_len, size_t frame_len)
                                    window, sizeof window, frame, frame_len, &lent.report);
 }
 
+static uint32_t post_frame(size_t ring_len, size_t count, size_t frame_len, uint32_t gso,
+                           uint16_t gso_size, uint8_t gso_type)
+{
+    spoil_report();
+    return declared_post(replies_read, ring, ring_len, grants, sizeof grants, window, sizeof window,
+                         references + 1, count, frame, frame_len, gso, gso_size, gso_type,
+                         &lent.report);
+}
+
 /* Checks a call's report: its answer, and other words where they are given. */
 #define REPORTS(call, ...) \
     CHECK(reported((call), (const uint32_t[TOLLMEANDER_REPORT_WORDS]){ __VA_ARGS__ }))
 #define TAKE() take(TOLLMEANDER_PAGE_SIZE, TOLLMEANDER_FRAME_MAX)
 #define PUT(length) put(TOLLMEANDER_PAGE_SIZE, (length))
+#define POST(count, length, ...) post_frame(TOLLMEANDER_PAGE_SIZE, (count), (length), __VA_ARGS__)
 
 /* Done with every word of the report set, one value each. */
 static void check_done(void)
@@ -593,9 +618,228 @@ static void check_packet_slots(void)
     REPORTS(TAKE(), TOLLMEANDER_MISSHAPEN, 0);
 }
 
+/* A ring at a counter with all replies read, a frame, and two references fit for it. */
+static void open_post(uint32_t counter)
+{
+    open_queue(counter);
+    replies_read = counter;
+    put32(ring + TOLLMEANDER_RING_REQ_EVENT, counter + 1);
+    references[1] = WRITE_GREF;
+    references[2] = OTHER_GREF;
+    for (size_t i = 0; i < sizeof frame; i++)
+        frame[i] = (uint8_t)(i * 5 + i / TOLLMEANDER_PAGE_SIZE);
+}
+
+/* All that post is lent, but the report, as one copy. */
+struct lent_to_post {
+    uint8_t ring[sizeof ring], grants[sizeof grants], window[sizeof window], frame[sizeof frame];
+    uint32_t references[1 + LONGEST_PAGES];
+};
+
+static void copy_lent(struct lent_to_post *copy)
+{
+    memcpy(copy->ring, ring, sizeof ring);
+    memcpy(copy->grants, grants, sizeof grants);
+    memcpy(copy->window, window, sizeof window);
+    memcpy(copy->frame, frame, sizeof frame);
+    memcpy(copy->references, references, sizeof references);
+}
+
+static int is_lent(const struct lent_to_post *expected)
+{
+    return memcmp(expected->ring, ring, sizeof ring) == 0 &&
+           memcmp(expected->grants, grants, sizeof grants) == 0 &&
+           memcmp(expected->window, window, sizeof window) == 0 &&
+           memcmp(expected->frame, frame, sizeof frame) == 0 &&
+           memcmp(expected->references, references, sizeof references) == 0;
+}
+
+/* A frame of two pages with gso: three slots across the wrap, octet by octet, and nothing else. */
+static void check_post_done(void)
+{
+    static const uint8_t slots[][TOLLMEANDER_TRANSMIT_SLOT_SIZE] = {
+        { WRITE_GREF, 0, 0, 0, 0, 0, MORE_DATA | EXTRA_FOLLOWS, 0, 0xFF, 0xFF, 0x01, 0x10 },
+        { 1, 0, 0xB4, 0x05, 2, 0, 0, 0, 0, 0, 0, 0 },
+        { OTHER_GREF, 0, 0, 0, 0, 0, 0, 0, 1, 0, 1, 0 }
+    };
+    static struct lent_to_post expected;
+    const uint32_t page = TOLLMEANDER_PAGE_SIZE, first = TOLLMEANDER_RING_FIRST_SLOT;
+
+    open_post(UINT32_MAX);
+    memset(ring + first, 0xEE, page - first);
+    copy_lent(&expected);
+    put32(expected.ring + TOLLMEANDER_RING_REQ_PROD, 2);
+    memcpy(expected.ring + first + 255 * sizeof slots[0], slots[0], sizeof slots[0]);
+    memcpy(expected.ring + first, slots[1], 2 * sizeof slots[0]);
+    memcpy(expected.window + page, frame, page + 1);
+    REPORTS(POST(2, page + 1, 1, GSO_SIZE, 2), TOLLMEANDER_DONE, 0, 0, 3, 1, 0);
+    CHECK(is_lent(&expected));
+    memset(frame, UNCOPIED, sizeof frame);
+    REPORTS(TAKE(), TOLLMEANDER_DONE, 0, 0, 3, 1, page + 1, 0, 0, GSO_SIZE, 2);
+    CHECK(copied(frame, expected.frame, page + 1));
+}
+
+/* Every value but 0 asks for gso; with 0 the size and the type are not looked at. */
+static void check_post_gso(void)
+{
+    static const uint32_t asks[] = { 1, 2, 0x100, 0x10000, UINT32_MAX };
+
+    for (size_t i = 0; i < sizeof asks / sizeof asks[0]; i++) {
+        open_post(0);
+        REPORTS(POST(1, 60, asks[i], 1, 1), TOLLMEANDER_DONE, 0, 0, 2, 1, 0);
+        REPORTS(TAKE(), TOLLMEANDER_DONE, 0, 0, 2, 1, 60, 0, 0, 1, 1);
+    }
+    open_post(0);
+    REPORTS(POST(1, 60, 0, 0, 9), TOLLMEANDER_DONE, 0, 0, 1, 1, 0);
+    REPORTS(TAKE(), TOLLMEANDER_DONE, 0, 0, 1, 1, 60, 0);
+}
+
+/* Checks that a refused post reports its answer alone and leaves all that was lent. */
+#define REFUSES(call, answer) \
+    do { \
+        static struct lent_to_post before; \
+        copy_lent(&before); \
+        REPORTS(call, answer, 0); \
+        CHECK(is_lent(&before)); \
+    } while (0)
+
+/* Each answer where all that is looked for later is wrong as well. */
+static void check_post_order(void)
+{
+    const size_t page = TOLLMEANDER_PAGE_SIZE;
+
+    open_post(0);
+    replies_read = 1;
+    REFUSES(post_frame(page - 1, 0, 0, 1, 0, 0), TOLLMEANDER_BAD_PAGE);
+    REFUSES(post_frame(page + 1, 0, 0, 1, 0, 0), TOLLMEANDER_BAD_PAGE);
+    REFUSES(post_frame(0, 0, 0, 1, 0, 0), TOLLMEANDER_BAD_PAGE);
+    REFUSES(POST(0, 0, 1, 0, 0), TOLLMEANDER_BAD_LENGTH);
+    REFUSES(POST(0, TOLLMEANDER_FRAME_MIN - 1, 1, 0, 0), TOLLMEANDER_BAD_LENGTH);
+    REFUSES(POST(0, TOLLMEANDER_FRAME_MAX + 1, 1, 0, 0), TOLLMEANDER_BAD_LENGTH);
+    REFUSES(POST(0, 60, 1, 0, 1), TOLLMEANDER_BAD_GSO);
+    REFUSES(POST(0, 60, 1, 1, 0), TOLLMEANDER_BAD_GSO);
+    REFUSES(POST(0, 60, 1, 1, 3), TOLLMEANDER_BAD_GSO);
+    REFUSES(POST(0, 60, 1, 1, 1), TOLLMEANDER_BAD_PAGES);
+    REFUSES(POST(1, 60, 1, 1, 1), TOLLMEANDER_NO_SLOTS);
+    replies_read = 0;
+    REPORTS(POST(1, 60, 1, 1, 1), TOLLMEANDER_DONE, 0, 0, 2, 1, 0);
+}
+
+/* The second reference must be there, fit for receive, and name another page than the first. */
+static void check_post_pages(void)
+{
+    static const uint32_t unfit[] = {
+        READ_GREF, CLEAR_GREF, OUTER_GREF, GRANTS, UINT32_MAX, WRITE_GREF, RANGE_GREF
+    };
+    const size_t length = TOLLMEANDER_PAGE_SIZE + 1;
+
+    for (size_t i = 0; i < sizeof unfit / sizeof unfit[0]; i++) {
+        open_post(0);
+        grant_range(RANGE_GREF, 2, ACCESS, 0, TOLLMEANDER_PAGE_SIZE - 1);
+        references[2] = unfit[i];
+        REFUSES(POST(2, length, 0, 0, 0), TOLLMEANDER_BAD_PAGES);
+        REPORTS(POST(2, length - 1, 0, 0, 0), TOLLMEANDER_DONE, 0, 0, 1, 1, 0);
+    }
+    open_post(0);
+    REFUSES(POST(1, length, 0, 0, 0), TOLLMEANDER_BAD_PAGES);
+    grant(RANGE_GREF, 1, ACCESS);
+    references[2] = RANGE_GREF;
+    REFUSES(POST(2, length, 0, 0, 0), TOLLMEANDER_BAD_PAGES);
+    grant(RANGE_GREF, 2, ACCESS);
+    REPORTS(POST(2, length, 0, 0, 0), TOLLMEANDER_DONE, 0, 0, 2, 1, 0);
+}
+
+/* Free slots are 256 less those posted and not replied to; none where these are above 256. */
+static void check_post_slots(void)
+{
+    static const uint32_t in_flight[] = { 0, 252, 253, 254, 255, 256, 257, 0x80000000, UINT32_MAX };
+
+    for (size_t i = 0; i < sizeof in_flight / sizeof in_flight[0]; i++) {
+        open_post(5);
+        replies_read -= in_flight[i];
+        if (in_flight[i] > TOLLMEANDER_RING_SLOTS - 3)
+            REFUSES(POST(2, TOLLMEANDER_PAGE_SIZE + 1, 1, 1, 1), TOLLMEANDER_NO_SLOTS);
+        else
+            REPORTS(POST(2, TOLLMEANDER_PAGE_SIZE + 1, 1, 1, 1), TOLLMEANDER_DONE, 0, 0, 3, 1, 0);
+    }
+}
+
+/* Slots 250 to 252 notify a req_event of 251 to 253. */
+static void check_post_notify(void)
+{
+    for (uint32_t req_event = 249; req_event < 256; req_event++) {
+        open_post(250);
+        put32(ring + TOLLMEANDER_RING_REQ_EVENT, req_event);
+        REPORTS(POST(2, TOLLMEANDER_PAGE_SIZE + 1, 1, 1, 1), TOLLMEANDER_DONE, 0, 0, 3,
+                req_event >= 251 && req_event <= 253, 0);
+    }
+}
+
+/* A frame of every length that one page or two take is posted and taken. */
+static void check_posted_frames(void)
+{
+    static uint8_t posted[2 * TOLLMEANDER_PAGE_SIZE];
+    const uint32_t page = TOLLMEANDER_PAGE_SIZE;
+
+    open_post(0);
+    memcpy(posted, frame, sizeof posted);
+    for (uint32_t n = TOLLMEANDER_FRAME_MIN; n <= 2 * page; n++) {
+        uint32_t slots = n > page ? 2 : 1;
+
+        memset(window, UNCOPIED, sizeof window);
+        put32(ring + TOLLMEANDER_RING_REQ_EVENT, consumed + 1);
+        put32(ring + TOLLMEANDER_RING_RSP_EVENT, consumed + 1);
+        replies_read = consumed;
+        memcpy(frame, posted, n);
+        REPORTS(POST(2, n, 0, 0, 0), TOLLMEANDER_DONE, 0, 0, slots, 1, 0);
+        CHECK(copied(window + page, posted, n));
+        memset(frame, UNCOPIED, n + 16);
+        REPORTS(TAKE(), TOLLMEANDER_DONE, 0, 0, slots, 1, n, 0);
+        CHECK(copied(frame, posted, n));
+    }
+}
+
+/* The longest frame, with gso, into sixteen pages named from the last to the first. */
+static void check_post_longest(void)
+{
+    static uint8_t wide[LONGEST_PAGES * TOLLMEANDER_PAGE_SIZE];
+    static uint8_t table[LONGEST_PAGES * TOLLMEANDER_GRANT_WORD_SIZE], taken[sizeof frame];
+    const uint32_t slots = 1 + LONGEST_PAGES;
+
+    open_post(0);
+    memset(taken, UNCOPIED, sizeof taken);
+    for (uint32_t i = 0; i < LONGEST_PAGES; i++) {
+        put32(table + TOLLMEANDER_GRANT_WORD_SIZE * i, i << TOLLMEANDER_GRANT_PAGE_BIT | ACCESS);
+        put16(table + TOLLMEANDER_GRANT_WORD_SIZE * i + TOLLMEANDER_GRANT_LENGTH, 4096);
+        references[1 + i] = LONGEST_PAGES - 1 - i;
+    }
+    spoil_report();
+    REPORTS(tollmeander_transmit_post(replies_read, ring, TOLLMEANDER_PAGE_SIZE, table,
+                                      sizeof table, wide, sizeof wide, references + 1,
+                                      LONGEST_PAGES, frame, TOLLMEANDER_FRAME_MAX, 1, UINT16_MAX,
+                                      1, &lent.report), TOLLMEANDER_DONE, 0, 0, slots, 1, 0);
+    CHECK(memcmp(wide, frame + 15 * TOLLMEANDER_PAGE_SIZE, TOLLMEANDER_PAGE_SIZE - 1) == 0);
+    spoil_report();
+    REPORTS(tollmeander_transmit_take(&consumed, &halted, ring, TOLLMEANDER_PAGE_SIZE, table,
+                                      sizeof table, wide, sizeof wide, taken,
+                                      TOLLMEANDER_FRAME_MAX, &lent.report),
+            TOLLMEANDER_DONE, 0, 0, slots, 1, TOLLMEANDER_FRAME_MAX, 0, 0, UINT16_MAX, 1);
+    CHECK(memcmp(taken, frame, TOLLMEANDER_FRAME_MAX) == 0);
+    CHECK(taken[TOLLMEANDER_FRAME_MAX] == UNCOPIED);
+}
+
 /* Buffers of no length: their pointers are not null, and nothing is read or written there. */
 static void check_empty_buffers(void)
 {
+    open_post(0);
+    spoil_report();
+    REPORTS(tollmeander_transmit_post(0, ring, TOLLMEANDER_PAGE_SIZE, grants, 0, window, 0,
+                                      references + 1, 1, frame, 60, 0, 0, 0, &lent.report),
+            TOLLMEANDER_BAD_PAGES, 0);
+    spoil_report();
+    REPORTS(tollmeander_transmit_post(0, ring, TOLLMEANDER_PAGE_SIZE, grants, 0, window, 0,
+                                      references + 1, 0, frame, 0, 0, 0, 0, &lent.report),
+            TOLLMEANDER_BAD_LENGTH, 0);
     open_queue(0);
     post_data(READ_GREF, 0, 0, 1, 60);
     spoil_report();
@@ -621,6 +865,13 @@ static void check_odd_addresses(void)
                                       sizeof window, frame + 1, 60, &lent.report),
             TOLLMEANDER_DONE, 0, 0, 1, 1, 60, 0);
     CHECK(memcmp(frame + 1, window + 3 * TOLLMEANDER_PAGE_SIZE + 1, 60) == 0);
+    references[1] = WRITE_GREF;
+    spoil_report();
+    REPORTS(tollmeander_transmit_post(1, odd_ring + 1, TOLLMEANDER_PAGE_SIZE, odd_grants + 1,
+                                      sizeof grants, odd_window + 1, sizeof window, references + 1,
+                                      1, frame + 1, 60, 0, 0, 0, &lent.report),
+            TOLLMEANDER_DONE, 0, 0, 1, 0, 0);
+    CHECK(memcmp(odd_window + 1 + TOLLMEANDER_PAGE_SIZE, frame + 1, 60) == 0);
 }
 
 int main(void)
@@ -638,6 +889,14 @@ int main(void)
     check_receive_refusals();
     check_receive_ranges();
     check_packet_slots();
+    check_post_done();
+    check_post_gso();
+    check_post_order();
+    check_post_pages();
+    check_post_slots();
+    check_post_notify();
+    check_posted_frames();
+    check_post_longest();
     check_empty_buffers();
     check_odd_addresses();
     return check_result("layout");

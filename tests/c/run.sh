@@ -45,15 +45,20 @@ test_of 'symbols: memmove only, PIE, shared object' sh tests/c/symbols.sh "$lib"
 test_of 'install: pkg-config, C99, C++' sh tests/c/install.sh "$lib" "$work"
 test_of 'header: words of four octets do not compile' sh tests/c/old_table.sh "$work"
 test_of 'example: as in the README' sh tests/c/example.sh "$lib" "$work"
+test_of 'host: both ends serve C99 and C++' sh tests/host/headers.sh "$lib" "$work"
 test_of 'host: edges' program tests/edges
+test_of "host: edges of the driver's end" program tests/front_edges
 test_of 'host: every interleaving of one call' program tests/interleave
+test_of 'host: every interleaving of one call of the driver' program tests/front_interleave
 test_of 'host: edits that must fail' timeout 100 sh tests/host/must_fail.sh "$lib" "$work"
 test_of 'host: transmit, 1,000,000 packets' program tests/transmit_run 1000000
 test_of 'host: receive, 1,000,000 frames' program tests/receive_run 1000000
+test_of 'host: post and take, 500,000 packets' program tests/post_run 500000
 test_of 'host: transmit, slots rewritten' program tests/hostile_transmit 100000
 test_of 'host: receive, requests rewritten' program tests/hostile_receive 100000
 test_of 'host: transmit, thread sanitizer' program tsan/transmit_run 30000
 test_of 'host: receive, thread sanitizer' program tsan/receive_run 30000
+test_of 'host: post and take, thread sanitizer' program tsan/post_run 30000
 test_of 'host: transmit, slots rewritten, thread sanitizer' program tsan/hostile_transmit 10000
 test_of 'host: receive, requests rewritten, thread sanitizer' program tsan/hostile_receive 10000
 test_of 'demo: table, counts, options' demo

@@ -1,5 +1,5 @@
 #!/bin/sh
-# The archive needs memmove and nothing else, offers the two calls and nothing else, and can be
+# The archive needs memmove and nothing else, offers the three calls and nothing else, and can be
 # linked into a position-independent program and a shared object: symbols.sh ARCHIVE WORKDIR
 set -eu
 lib=$1
@@ -17,6 +17,7 @@ needed=$(nm -u "$lib" | awk '$1 == "U" { print $2 }' | sort -u)
 offered=$(nm -g --defined-only "$lib" | awk 'NF == 3 { print $2, $3 }' | sort -u)
 expect 'undefined symbols' "$needed" memmove
 expect 'defined symbols' "$offered" "T tollmeander_receive_put
+T tollmeander_transmit_post
 T tollmeander_transmit_take"
 
 include="-I$here/../../include"

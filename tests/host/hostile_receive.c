@@ -15,7 +15,7 @@
 #include <string.h>
 
 #include "channel.h"
-#include "front_ring.h"
+#include "slot_ring.h"
 #include "run_options.h"
 #include "slot_bits.h"
 #include "thread.h"
@@ -39,7 +39,7 @@ struct host {
 static struct ring_page page;
 static struct version_pages pages;
 static struct channel to_host;
-static struct front_ring front;
+static struct slot_ring front;
 static bool ruined[TOLLMEANDER_RING_SLOTS];
 static struct rng guest_rng;
 static uint64_t rewrites, ruined_requests;
@@ -80,7 +80,7 @@ static void rewrite_some(void)
 {
     uint32_t in_flight;
 
-    front.replied += front_ring_replies(&front);
+    front.replied += slot_ring_replies(&front);
     in_flight = front.published - front.replied;
     for (uint32_t i = 0; in_flight > 0 && i < REWRITES_AT_A_TIME; i++)
         rewrite(front.replied + rng_below(&guest_rng, in_flight));
@@ -102,7 +102,7 @@ static void ruin_what_was_seen(void)
             return;
         rewrite_some();
     }
-    front.replied += front_ring_replies(&front);
+    front.replied += slot_ring_replies(&front);
     for (uint32_t n = front.replied; n != front.published; n++) {
         ruined[n % TOLLMEANDER_RING_SLOTS] = true;
         store_word(n, 0, POISON_ID);
@@ -118,9 +118,9 @@ static void post_requests(uint32_t count)
         uint32_t slot[RECEIVE_SLOT_WORDS] = { request_word(n, 0, 0), request_word(n, 1, 0) };
 
         ruined[n % TOLLMEANDER_RING_SLOTS] = false;
-        front_ring_write(&front, slot);
+        slot_ring_write(&front, slot);
     }
-    if (front_ring_publish(&front, count))
+    if (slot_ring_publish(&front, count))
         channel_notify(&to_host);
 }
 
@@ -238,7 +238,7 @@ int main(int argc, char **argv)
     version_pages_grant(&pages);
     channel_open(&to_host);
     guest_rng = rng_of(options.seed, 2);
-    front_ring_open(&front, &page, RECEIVE_SLOT_WORDS, (uint32_t)FIRST_COUNTER);
+    slot_ring_open(&front, &page, RECEIVE_SLOT_WORDS, (uint32_t)FIRST_COUNTER);
     back_ring_open_receive(&host.ring, &page, (uint32_t)FIRST_COUNTER);
     guest_thread = thread_start(run_guest, NULL);
     run_host(&options);

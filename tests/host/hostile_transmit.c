@@ -16,7 +16,7 @@
 
 #include "channel.h"
 #include "clock.h"
-#include "front_ring.h"
+#include "slot_ring.h"
 #include "run_options.h"
 #include "slot_bits.h"
 #include "thread.h"
@@ -55,7 +55,7 @@ struct host {
 static struct ring_page page;
 static struct version_pages pages;
 static struct channel to_host;
-static struct front_ring front;
+static struct slot_ring front;
 static struct published_slot slots[TOLLMEANDER_RING_SLOTS];
 static struct rng guest_rng;
 static uint64_t rewrites;
@@ -195,7 +195,7 @@ static void rewrite_until(uint32_t header_word, uint32_t value)
 
 static void publish(uint32_t count)
 {
-    if (front_ring_publish(&front, count))
+    if (slot_ring_publish(&front, count))
         channel_notify(&to_host);
 }
 
@@ -229,7 +229,7 @@ static void post_packet(uint64_t number)
         for (uint32_t word = 0; word < TRANSMIT_SLOT_WORDS; word++)
             slot[word] = slot_word(shape, place, n, word, 0);
         slots[n % TOLLMEANDER_RING_SLOTS] = (struct published_slot){ shape, place, false };
-        front_ring_write(&front, slot);
+        slot_ring_write(&front, slot);
     }
     if (shape.ruined && slots_of(shape) > 1)
         publish_and_ruin(first, slots_of(shape) - 1);
@@ -385,7 +385,7 @@ int main(int argc, char **argv)
     fill_pages(options.seed);
     channel_open(&to_host);
     guest_rng = rng_of(options.seed, 2);
-    front_ring_open(&front, &page, TRANSMIT_SLOT_WORDS, (uint32_t)FIRST_COUNTER);
+    slot_ring_open(&front, &page, TRANSMIT_SLOT_WORDS, (uint32_t)FIRST_COUNTER);
     back_ring_open_transmit(&host.ring, &page, (uint32_t)FIRST_COUNTER);
     guest_thread = thread_start(run_guest, &options.packets);
     run_host(options.packets);

@@ -44,14 +44,14 @@ static struct host host;
 /* Posts buffers in pieces until some dozens are outstanding; their number. */
 static uint32_t post_in_pieces(void)
 {
-    struct front_ring *ring = &guest.receiver.ring;
+    struct slot_ring *ring = &guest.receiver.ring;
     uint32_t goal = FEWEST_BUFFERS + rng_below(&guest.rng, MOST_BUFFERS - FEWEST_BUFFERS);
 
     while (ring->written - ring->replied < goal) {
         uint32_t left = goal - (ring->written - ring->replied);
         uint32_t count = receiver_write(&guest.receiver, 1 + rng_below(&guest.rng, left));
 
-        if (front_ring_publish(ring, count))
+        if (slot_ring_publish(ring, count))
             channel_notify(&to_host);
         dawdle(&guest.rng);
     }
@@ -68,7 +68,7 @@ static void sleep_for_replies(uint32_t buffers, uint64_t frames_to_come)
     uint32_t most = frames_to_come < sure ? (uint32_t)frames_to_come : sure;
     uint32_t awaited = 1 + rng_below(&guest.rng, most);
 
-    while (!guest.stalled && front_ring_await(&guest.receiver.ring, awaited)) {
+    while (!guest.stalled && slot_ring_await(&guest.receiver.ring, awaited)) {
         guest.sleeps++;
         guest.stalled = !channel_wait(&to_guest);
     }
@@ -146,7 +146,7 @@ int main(int argc, char **argv)
     pthread_t guest_thread;
 
     frame_pool_fill(&pool, options.seed);
-    guest_pages_open(&pages);
+    guest_pages_open(&pages, TOLLMEANDER_GRANTED);
     channel_open(&to_guest);
     channel_open(&to_host);
     guest.rng = rng_of(options.seed, UINT64_MAX);

@@ -55,7 +55,7 @@ static void publish_in_pieces(void)
     while (left > 0) {
         uint32_t piece = 1 + rng_below(&guest.rng, left);
 
-        if (front_ring_publish(&guest.sender.ring, piece))
+        if (slot_ring_publish(&guest.sender.ring, piece))
             channel_notify(&to_host);
         left -= piece;
         dawdle(&guest.rng);
@@ -67,7 +67,7 @@ static void sleep_for_replies(uint32_t due)
 {
     uint32_t awaited = 1 + rng_below(&guest.rng, due);
 
-    while (!guest.stalled && front_ring_await(&guest.sender.ring, awaited)) {
+    while (!guest.stalled && slot_ring_await(&guest.sender.ring, awaited)) {
         guest.sleeps++;
         guest.stalled = !channel_wait(&to_guest);
     }
@@ -140,7 +140,7 @@ int main(int argc, char **argv)
     pthread_t guest_thread;
 
     frame_pool_fill(&pool, options.seed);
-    guest_pages_open(&pages);
+    guest_pages_open(&pages, TOLLMEANDER_GRANTED);
     channel_open(&to_guest);
     channel_open(&to_host);
     guest.rng = rng_of(options.seed, UINT64_MAX);

@@ -2,9 +2,12 @@
 
 #![deny(warnings)]
 
+#[path = "post_table.rs"]
+mod post_table;
 #[path = "table.rs"]
 mod table;
 
+use post_table::POST_MUTANTS;
 use std::fmt::Write;
 use std::path::Path;
 use std::{env, fs};
@@ -12,41 +15,52 @@ use table::{Mutant, MUTANTS};
 
 const SOURCE: &str = "../reference/src";
 
-/// The modules that the two calls are made of, each after those that it uses. The last has the calls.
-const MODULES: [&str; 9] =
-    ["words", "slots", "report", "ring", "grammar", "grants", "receive", "transmit", "calls"];
+/// The modules that the calls are made of, each after those that it uses. The last has the calls.
+const MODULES: [&str; 10] =
+    ["words", "slots", "report", "ring", "grammar", "grants", "receive", "transmit", "post", "calls"];
 
 /// A copy without edits, which must agree with the library.
 const UNCHANGED: Mutant = Mutant { name: "unchanged", edits: &[] };
 
 fn main() {
     println!("cargo:rerun-if-changed=table.rs");
+    println!("cargo:rerun-if-changed=post_table.rs");
     println!("cargo:rerun-if-changed={SOURCE}");
     let out = env::var("OUT_DIR").expect("OUT_DIR");
     let texts = MODULES.map(|module| fs::read_to_string(path(SOURCE, module)).expect("a module's source"));
     let mut code = String::new();
-    let mut list = String::new();
-    for mutant in [&UNCHANGED].into_iter().chain(MUTANTS) {
-        let folder = format!("{out}/{}", mutant.name);
-        fs::create_dir_all(&folder).expect("a folder for the copies");
-        writeln!(code, "#[allow(warnings)] mod {} {{", mutant.name).expect("code");
-        let own = own_modules(mutant, &texts);
-        for (module, text) in MODULES.into_iter().zip(&texts) {
-            if !own.contains(&module) {
-                writeln!(code, "pub use super::unchanged::{module};").expect("code");
-                continue;
-            }
-            let copy = path(&folder, module);
-            fs::write(&copy, edited(mutant, module, text)).expect("a copy");
-            writeln!(code, "#[path = {copy:?}] pub mod {module};").expect("code");
+    for (name, mutants) in
+        [("UNCHANGED", &[UNCHANGED][..]), ("MUTANTS", MUTANTS), ("POST_MUTANTS", POST_MUTANTS)]
+    {
+        let mut list = String::new();
+        for mutant in mutants {
+            code.push_str(&copy(&out, mutant, &texts));
+            let calls = format!("{}::calls", mutant.name);
+            let [take, put] = ["transmit_take", "receive_put"].map(|call| format!("{calls}::{call}"));
+            let second = format!("Second {{ take: {take}, put: {put}, post: {calls}::transmit_post }}");
+            writeln!(list, "({:?}, {second}),", mutant.name).expect("code");
         }
-        writeln!(code, "}}").expect("code");
-        let calls = format!("{}::calls", mutant.name);
-        let second = format!("Second {{ take: {calls}::transmit_take, put: {calls}::receive_put }}");
-        writeln!(list, "({:?}, {second}),", mutant.name).expect("code");
+        writeln!(code, "const {name}: &[(&str, Second)] = &[{list}];").expect("code");
     }
-    writeln!(code, "const COPIES: &[(&str, Second)] = &[{list}];").expect("code");
     fs::write(Path::new(&out).join("copies.rs"), code).expect("copies.rs");
+}
+
+/// Writes a mutant's own modules to a folder, and gives the code that makes a module of them and the others.
+fn copy(out: &str, mutant: &Mutant, texts: &[String]) -> String {
+    let folder = format!("{out}/{}", mutant.name);
+    fs::create_dir_all(&folder).expect("a folder for the copies");
+    let mut code = format!("#[allow(warnings)] mod {} {{\n", mutant.name);
+    let own = own_modules(mutant, texts);
+    for (module, text) in MODULES.into_iter().zip(texts) {
+        if !own.contains(&module) {
+            writeln!(code, "pub use super::unchanged::{module};").expect("code");
+            continue;
+        }
+        let copy = path(&folder, module);
+        fs::write(&copy, edited(mutant, module, text)).expect("a copy");
+        writeln!(code, "#[path = {copy:?}] pub mod {module};").expect("code");
+    }
+    code + "}\n"
 }
 
 fn path(folder: &str, module: &str) -> String {

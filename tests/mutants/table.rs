@@ -1,4 +1,4 @@
-//! Wrong variants of the second program: edits of its source, each of which must be found exactly once.
+//! Wrong variants of the second program's take and put: edits of its source, each of which must be found exactly once.
 
 pub struct Mutant {
     pub name: &'static str,
@@ -12,11 +12,11 @@ pub struct Edit {
     pub wrong: &'static str,
 }
 
-const fn edit(file: &'static str, right: &'static str, wrong: &'static str) -> Edit {
+pub const fn edit(file: &'static str, right: &'static str, wrong: &'static str) -> Edit {
     Edit { file, right, wrong }
 }
 
-const fn mutant(name: &'static str, edits: &'static [Edit]) -> Mutant {
+pub const fn mutant(name: &'static str, edits: &'static [Edit]) -> Mutant {
     Mutant { name, edits }
 }
 
@@ -32,11 +32,7 @@ pub const MUTANTS: &[Mutant] = &[
     ),
     mutant(
         "counters_compared_with_plain_less_than",
-        &[edit(
-            "ring.rs",
-            "minus(number(page, REQ_PROD, 4), consumed)",
-            "number(page, REQ_PROD, 4).saturating_sub(consumed)",
-        )],
+        &[edit("ring.rs", "minus(req_prod(page), consumed)", "req_prod(page).saturating_sub(consumed)")],
     ),
     mutant(
         "slot_0_replied_to_before_grants_are_tested",
@@ -377,14 +373,11 @@ pub const MUTANTS: &[Mutant] = &[
             "let mut bytes = joined(&packet, lent); bytes.resize(lent.frame.len(), 0);",
         )],
     ),
-    mutant(
-        "event_for_the_last_slot_posted",
-        &[edit("ring.rs", "plus(number(page, REQ_PROD, 4), 1)", "number(page, REQ_PROD, 4)")],
-    ),
-    mutant("notify_one_early", &[edit("ring.rs", "minus(new, rsp_event) <", "minus(new, rsp_event) <=")]),
+    mutant("event_for_the_last_slot_posted", &[edit("ring.rs", "plus(req_prod(page), 1)", "req_prod(page)")]),
+    mutant("notify_one_early", &[edit("ring.rs", "minus(new, event) <", "minus(new, event) <=")]),
     mutant(
         "notify_by_plain_less_than",
-        &[edit("ring.rs", "minus(new, rsp_event) < minus(new, old)", "old < rsp_event && rsp_event <= new")],
+        &[edit("ring.rs", "minus(new, event) < minus(new, old)", "old < event && event <= new")],
     ),
     mutant(
         "rsp_prod_not_moved",

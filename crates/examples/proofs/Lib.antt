@@ -1,3 +1,4 @@
--- The claim over the table, and the sequence.
+-- The claims over the tables, and the sequence.
 pub mod Hold
+pub mod Posts
 pub mod Taken

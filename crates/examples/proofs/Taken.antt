@@ -7,7 +7,7 @@ use native.Mathlib.Omega.{arith}
 use lib.Dec.{lit<, lit≤}
 use Rattle.words.specs.Word.{u16At, u32At, bit, u16Bytes, u32Bytes, splice}
 use Rattle.words.proofs.Word.{bytes-of}
-use Rattle.ring.specs.Ring.{wadd, wsub, withReqEvent, withRspProd, posted, asking, notify, slotPlace, slotAt}
+use Rattle.ring.specs.Ring.{wadd, wsub, withReqEvent, withProducer, posted, asking, notify, slotPlace, slotAt}
 use Rattle.grant.specs.Grant.{hasWord, wordBits, granted, writable, pageOf, rangeStart, rangeLength, rangeEnd, rangeInPage, wholePage, inRange, usable, fitTransmit}
 use Rattle.netif.specs.Slot.{gref, offset, flags, ident, size, moreData, extraFollows, isExtra, anotherExtra, gsoSize, gsoType, transmitReply}
 use Rattle.netif.specs.Grammar.{within}
@@ -44,7 +44,7 @@ first = Sequence.publish (Sequence.fresh is-fresh) half 1 (record {
 })
 
 pub one-taken : OneTaken
-unfolding OneTaken afterPublication callAt outcomeOf answerOf afterCall u16At u32At bit u16Bytes u32Bytes splice wadd wsub withReqEvent withRspProd posted asking notify slotPlace slotAt hasWord wordBits granted writable pageOf rangeStart rangeLength rangeEnd rangeInPage wholePage inRange usable fitTransmit gref offset flags ident size moreData extraFollows isExtra anotherExtra gsoSize gsoType transmitReply within divide totalOf ownPart parts judgeSizes judgeSlot judgeSlots judge dataReply extraReply repliesOf waitingSlots doneReport repliesTo repliedPage spoiled handedOver look transmitTake
+unfolding OneTaken afterPublication callAt outcomeOf answerOf afterCall u16At u32At bit u16Bytes u32Bytes splice wadd wsub withReqEvent withProducer posted asking notify slotPlace slotAt hasWord wordBits granted writable pageOf rangeStart rangeLength rangeEnd rangeInPage wholePage inRange usable fitTransmit gref offset flags ident size moreData extraFollows isExtra anotherExtra gsoSize gsoType transmitReply within divide totalOf ownPart parts judgeSizes judgeSlot judgeSlots judge dataReply extraReply repliesOf waitingSlots doneReport repliesTo repliedPage spoiled handedOver look transmitTake
 one-taken = (
   _,
   _,

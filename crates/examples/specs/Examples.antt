@@ -4,6 +4,7 @@ use mathlib.Core.List.{List, [], _∷_, map}
 use Prim.Native.Nat.{ℕ, _+_, _*_}
 use Prim.Native.String.{String}
 use Rattle.ring.specs.Ring.{notify, posted, slotPlace}
+use Rattle.ring.specs.declared.Side.the-variants.{Replies}
 use Rattle.grant.specs.Grant.{granted, writable, pageOf}
 use Rattle.netif.specs.Slot.{slotWidth, slotCount, gref, offset, ident, size, gsoSize, gsoType, okay, error}
 use Rattle.netif.specs.Report.{halt, goOn, flag}
@@ -37,10 +38,10 @@ rows =
     ∷ ("sizes 100, 101: cause 3" ∣ answered (takes (two 100 101)) ⇒ 7 ∷ 3 ∷ 0 ∷ [])
     ∷ ("consumed 4294967290, req_prod 6: posted" ∣ posted (header 6 0) 4294967290 ∷ [] ⇒ 12 ∷ [])
     ∷ ("consumed 4294967290: slot 250 is next" ∣ slotPlace slotWidth slotCount 4294967290 ∷ [] ⇒ (64 + 12 * 250) ∷ [])
-    ∷ ("old 250, new 253: rsp_event 251 notifies" ∣ flag (notify (header 0 251) 250 253) ∷ [] ⇒ 1 ∷ [])
-    ∷ ("old 250, new 253: rsp_event 253 notifies" ∣ flag (notify (header 0 253) 250 253) ∷ [] ⇒ 1 ∷ [])
-    ∷ ("old 250, new 253: rsp_event 250 does not" ∣ flag (notify (header 0 250) 250 253) ∷ [] ⇒ 0 ∷ [])
-    ∷ ("old 250, new 253: rsp_event 254 does not" ∣ flag (notify (header 0 254) 250 253) ∷ [] ⇒ 0 ∷ [])
+    ∷ ("old 250, new 253: rsp_event 251 notifies" ∣ flag (notify Replies (header 0 251) 250 253) ∷ [] ⇒ 1 ∷ [])
+    ∷ ("old 250, new 253: rsp_event 253 notifies" ∣ flag (notify Replies (header 0 253) 250 253) ∷ [] ⇒ 1 ∷ [])
+    ∷ ("old 250, new 253: rsp_event 250 does not" ∣ flag (notify Replies (header 0 250) 250 253) ∷ [] ⇒ 0 ∷ [])
+    ∷ ("old 250, new 253: rsp_event 254 does not" ∣ flag (notify Replies (header 0 254) 250 253) ∷ [] ⇒ 0 ∷ [])
     ∷ ("extra: gso size, gso type" ∣ gsoSize (extraA 1) ∷ gsoType (extraA 1) ∷ [] ⇒ 1460 ∷ 1 ∷ [])
     ∷ ("extra: reply" ∣ extraReply (extraA 1) ⇒ 0x00 ∷ 0x00 ∷ 0x01 ∷ 0x00 ∷ [])
     ∷ ("extra: reply, on the ring page" ∣ slotOf (takes (withExtra 1)) 1 ⇒ 0x00 ∷ 0x00 ∷ 0x01 ∷ 0x00 ∷ 0x01 ∷ 0x00 ∷ 0x00 ∷ 0x00 ∷ 0x00 ∷ 0x00 ∷ 0x00 ∷ 0x00 ∷ [])

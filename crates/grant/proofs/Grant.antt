@@ -107,6 +107,9 @@ module _ (table window : List ℕ) (g : ℕ) where
     pub fit-word : hasWord table g ≡ true
     fit-word = and-both _ (granted table g) (and-both _ (rangeInPage table g) (fit-both .0) .0) .0
 
+    pub fit-granted : granted table g ≡ true
+    fit-granted = and-both (hasWord table g) _ (and-both _ (rangeInPage table g) (fit-both .0) .0) .1
+
     pub fit-range : rangeEnd table g ≤ 4096
     unfolding rangeInPage
     fit-range = leb-true (rangeEnd table g) 4096 (and-both (hasWord table g && granted table g) _ (fit-both .0) .1)
@@ -139,6 +142,13 @@ module _ (table window : List ℕ) (g : ℕ) where
   receive-whole h =
       let (a, b) = and-both (eqb (rangeStart table g) 0) (eqb (rangeLength table g) 4096) (and-both (writable table g) _ (and-both (fitTransmit table window g) _ h .1) .1) in
       rw (eqb-true (rangeStart table g) 0 a, eqb-true (rangeLength table g) 4096 b)
+
+  -- so every part of it from its start on is in range
+  pub receive-range : fitReceive table window g ≡ true → (n : ℕ) → n ≤ 4096 → inRange table g 0 n ≡ true
+  unfolding fitReceive wholePage inRange rangeEnd
+  receive-range h n k =
+      let (a, b) = and-both (eqb (rangeStart table g) 0) (eqb (rangeLength table g) 4096) (and-both (writable table g) _ (and-both (fitTransmit table window g) _ h .1) .1) in
+      rw (eqb-true (rangeStart table g) 0 a, eqb-true (rangeLength table g) 4096 b) (le-leb (0 + n) 4096 (omega arith))
 
   pub source-unfit : (offset n : ℕ) → fitTransmit table window g ≡ false → source.Unfit ≡ sourceOf table window g offset n
   unfolding sourceOf

@@ -2,9 +2,9 @@
 use mathlib.Core.Path.{_≡_}
 use mathlib.Core.List.{List}
 use mathlib.Core.Bool.{true, cond}
-use Prim.Native.Nat.{ℕ, _+_, _-_, _≤_}
+use Prim.Native.Nat.{ℕ, _+_, _-_, _*_, _≤_}
 use lib.ListN.{length, take, drop}
-use Rattle.grant.specs.Grant.{pageOf, rangeStart, rangeEnd, inRange, fitTransmit, fitReceive, pagePart, rangeOf}
+use Rattle.grant.specs.Grant.{wordSize, pageOf, rangeStart, rangeEnd, inRange, fitTransmit, fitReceive, pagePart, rangeOf}
 use Rattle.grant.specs.declared.Page.{Page}
 use Rattle.grant.specs.declared.Page.the-variants as page
 use Rattle.grant.specs.declared.Source.{Source}
@@ -42,3 +42,10 @@ pub record LookedUp (window : List ℕ) (p offset n : ℕ) (bytes : List ℕ) : 
 pub record CoveredAlike (table window other : List ℕ) : Type 0 where
   pub lengths : length window ≡ length other
   pub ranges : (g : ℕ) → fitTransmit table window g ≡ true → rangeOf table window g ≡ rangeOf table other g
+
+-- a grant word is as it was, byte for byte; so is a page
+unfoldable pub SameWord : (table table′ : List ℕ) (g : ℕ) → Type 0
+SameWord table table′ g = take wordSize (drop (wordSize * g) table′) ≡ take wordSize (drop (wordSize * g) table)
+
+unfoldable pub SamePage : (window window′ : List ℕ) (p : ℕ) → Type 0
+SamePage window window′ p = pagePart window′ p 0 4096 ≡ pagePart window p 0 4096

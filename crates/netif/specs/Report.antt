@@ -39,6 +39,10 @@ plain n = record { answer = n; cause = 0; place = 0; slots = 0; notifies = 0; to
 abbrev pub spoiledReport : ℕ → ℕ → ℕ → Bool → Report
 spoiledReport c k n notified = record { answer = 7; cause = c; place = k; slots = n; notifies = flag notified; total = 0; blank = 0; validated = 0; gsoSizeWord = 0; gsoTypeWord = 0 }
 
+-- done, with slots, notify and a total
+abbrev pub doneWith : ℕ → Bool → ℕ → Report
+doneWith n notified total = record { answer = 0; cause = 0; place = 0; slots = n; notifies = flag notified; total = total; blank = 0; validated = 0; gsoSizeWord = 0; gsoTypeWord = 0 }
+
 -- the number and the words of each answer
 abbrev pub reportOf : Answer → Report
 reportOf (Done s) = record {

@@ -10,7 +10,8 @@ use lib.Seq.{take-all}
 use lib.Dec.{ltb, eqb}
 use borrow.Author.Tests.{lt-ltb, le-ltb, ltb-false}
 use Rattle.words.specs.Word.{splice}
-use Rattle.ring.specs.Ring.{wadd, notify, slotPlace, slotAt, posted, asking, withRspProd, withReplies}
+use Rattle.ring.specs.Ring.{wadd, notify, ProducerMoved, slotPlace, slotAt, posted, asking, withProducer, withReplies}
+use Rattle.ring.specs.declared.Side.the-variants.{Replies}
 use Rattle.ring.proofs.Ring.{slots-length}
 use Rattle.grant.specs.Grant.{withPage}
 use Rattle.grant.specs.Found.{writePage}
@@ -19,15 +20,15 @@ use Rattle.grant.proofs.Grant.{receive-transmit, fit-page}
 use Rattle.netif.specs.Slot.{requestIdent, requestGref, receiveReply}
 use Rattle.netif.specs.Decode.{requestOf}
 use Rattle.netif.specs.declared.Request.{Request}
-use Rattle.netif.specs.Report.{halt, goOn, plain, spoiledReport, reportOf}
+use Rattle.netif.specs.Report.{halt, goOn, plain, spoiledReport, doneWith, reportOf}
 use Rattle.netif.specs.declared.Queue.{Queue}
 use Rattle.netif.specs.declared.Outcome.{Outcome}
 use Rattle.netif.specs.declared.Answer.{Answer}
 use Rattle.netif.specs.declared.Answer.the-variants as answer
 use Rattle.netif.specs.declared.Verdict.{Verdict}
 use Rattle.netif.specs.declared.Verdict.the-variants.{Good, Bad}
-use Rattle.receive.specs.Put.{badLength, needed, requestsFrom, pagesNamed, scatter, errorReplies, pieceReplies, receiveReport, Delivery, told, refuse, deliver, settle, receivePut, Delivered}
-use Rattle.receive.specs.Stages.{AllUsable, Judged, Finished, Concluded}
+use Rattle.receive.specs.Put.{badLength, needed, requestsFrom, pagesNamed, scatter, errorReplies, pieceReplies, Delivery, told, refuse, deliver, settle, receivePut, Delivered}
+use Rattle.receive.specs.Stages.{AllUsable, Judged, Concluded}
 use Rattle.receive.proofs.Requests.{request-unfit, request-fit, good-usable}
 use Rattle.receive.proofs.Pieces.{errors-notify, pieces-notify}
 
@@ -41,6 +42,10 @@ pub needed-cover : (n : ℕ) → 4096 * needed n ≤ n + 4095
 unfolding needed
 needed-cover n = omega arith
 
+pub needed-reach : (n : ℕ) → n ≤ 4096 * needed n
+unfolding needed
+needed-reach n = omega arith
+
 pub one-piece : (n : ℕ) → needed n ≡ 1 → n ≤ 4096
 unfolding needed
 one-piece n h = omega arith
@@ -52,17 +57,17 @@ module _ (old count : ℕ) (page : List ℕ) (size : length page ≡ 4096) (few 
   all = sym (slots-length 8 256 page count old)
 
   pub refused : (new : ℕ) → new ≡ wadd old count → (cause place : ℕ) (mid last : List ℕ) (notifies : Bool) (r : Outcome) → mid ≡ withReplies 8 256 page old (errorReplies (requestsFrom page old count))
-      → Finished mid old new last notifies → r .answer ≡ answer.Spoiled cause place count notifies → r .queue ≡ goOn new
+      → ProducerMoved Replies mid old new last notifies → r .answer ≡ answer.Spoiled cause place count notifies → r .queue ≡ goOn new
       → (window : List ℕ) → Delivered (refuse old page window (requestsFrom page old count) cause place) r last window
   unfolding refuse
   refused new ahead cause place mid last notifies r m f a goes window =
       let counter : new ≡ wadd old (length (requestsFrom page old count)) = ahead ∙ ap (wadd old) all in
-      let told : notifies ≡ notify page old (wadd old (length (requestsFrom page old count)))
-      = f .notifies ∙ ap (λ (p : List ℕ). notify p old new) m ∙ errors-notify page size old count few old new ∙ ap (notify page old) counter in
+      let told : notifies ≡ notify Replies page old (wadd old (length (requestsFrom page old count)))
+      = f .notifies ∙ ap (λ (p : List ℕ). notify Replies p old new) m ∙ errors-notify page size old count few old new ∙ ap (notify Replies page old) counter in
       record {
         report = ap reportOf a ∙ (λ i. spoiledReport cause place (all i) (told i));
         queue = goes ∙ ap goOn counter;
-        page = f .page ∙ (λ i. withRspProd (m i) (counter i));
+        page = f .page ∙ (λ i. withProducer Replies (m i) (counter i));
         window = refl;
       }
 
@@ -72,12 +77,12 @@ module _ (old count : ℕ) (page : List ℕ) (size : length page ≡ 4096) (few 
   unfolding deliver
   delivered pages window frame mid last window′ r m e w =
       let counter : wadd old count ≡ wadd old (length (requestsFrom page old count)) = ap (wadd old) all in
-      let told : notify mid old (wadd old count) ≡ notify page old (wadd old (length (requestsFrom page old count)))
-      = ap (λ (p : List ℕ). notify p old (wadd old count)) m ∙ pieces-notify page size old count few frame old (wadd old count) ∙ ap (notify page old) counter in
+      let told : notify Replies mid old (wadd old count) ≡ notify Replies page old (wadd old (length (requestsFrom page old count)))
+      = ap (λ (p : List ℕ). notify Replies p old (wadd old count)) m ∙ pieces-notify page size old count few frame old (wadd old count) ∙ ap (notify Replies page old) counter in
       record {
-        report = e .report ∙ (λ i. receiveReport (all i) (told i) (length frame));
+        report = e .report ∙ (λ i. doneWith (all i) (told i) (length frame));
         queue = e .queue ∙ ap goOn counter;
-        page = e .page ∙ (λ i. withRspProd (m i) (counter i));
+        page = e .page ∙ (λ i. withProducer Replies (m i) (counter i));
         window = w;
       }
 

@@ -12,6 +12,7 @@ use borrow.Author.Tests.{lt-ltb, le-ltb}
 use Rattle.words.specs.Word.{u16At, u16Bytes, splice}
 use Rattle.words.proofs.Word.{lt-or-ge}
 use Rattle.ring.specs.Ring.{wadd, notify, slotPlace, slotAt, withReplies}
+use Rattle.ring.specs.declared.Side.the-variants.{Replies}
 use Rattle.ring.proofs.Ring.{Short, place-fits, slots-at, slots-length, slot-u16}
 use Rattle.grant.specs.Grant.{withPage}
 use Rattle.netif.specs.Slot.{Slot, error, requestIdent, receiveReply}
@@ -75,7 +76,7 @@ pub errors-length : (l : List Slot) → length (errorReplies l) ≡ length l
 errors-length l = length-map l errorReply
 
 -- whether others follow, as the code asks it
-follows : (i n : ℕ) → ltb 0 (n - suc i) ≡ ltb (i + 1) n
+pub follows : (i n : ℕ) → ltb 0 (n - suc i) ≡ ltb (i + 1) n
 follows i n = ⊎-elim
     (λ h. lt-ltb 0 (n - suc i) (omega arith) ∙ sym (lt-ltb (i + 1) n h))
     (λ h. le-ltb 0 (n - suc i) (omega arith) ∙ sym (le-ltb (i + 1) n h))
@@ -146,9 +147,9 @@ module _ (page : List ℕ) (size : length page ≡ 4096) (first count : ℕ) (fe
   pub errors-last : (i : ℕ) (now : List ℕ) → i ≡ count → now ≡ withReplies 8 256 page first (take i (errorReplies (requestsFrom page first count))) → now ≡ withReplies 8 256 page first (errorReplies (requestsFrom page first count))
   errors-last i now h p = p ∙ ap (withReplies 8 256 page first) (take-all i (errorReplies (requestsFrom page first count)) (omega (arith, error-count)))
 
-  pub errors-notify : (old new : ℕ) → notify (withReplies 8 256 page first (errorReplies (requestsFrom page first count))) old new ≡ notify page old new
+  pub errors-notify : (old new : ℕ) → notify Replies (withReplies 8 256 page first (errorReplies (requestsFrom page first count))) old new ≡ notify Replies page old new
   errors-notify old new =
-      notify-replied 8 256 (omega arith) page (omega arith) first (errorReplies (requestsFrom page first count)) (errors-short (requestsFrom page first count)) old new
+      notify-replied 8 256 (omega arith) page (omega arith) first (errorReplies (requestsFrom page first count)) (errors-short (requestsFrom page first count)) Replies old new
 
   module _ (frame : List ℕ) where
     piece-count : length (pieceReplies (requestsFrom page first count) frame) ≡ count
@@ -165,6 +166,6 @@ module _ (page : List ℕ) (size : length page ≡ 4096) (first count : ℕ) (fe
     pub pieces-last : (i : ℕ) (now : List ℕ) → i ≡ count → now ≡ withReplies 8 256 page first (take i (pieceReplies (requestsFrom page first count) frame)) → now ≡ withReplies 8 256 page first (pieceReplies (requestsFrom page first count) frame)
     pieces-last i now h p = p ∙ ap (withReplies 8 256 page first) (take-all i (pieceReplies (requestsFrom page first count) frame) (omega (arith, piece-count)))
 
-    pub pieces-notify : (old new : ℕ) → notify (withReplies 8 256 page first (pieceReplies (requestsFrom page first count) frame)) old new ≡ notify page old new
+    pub pieces-notify : (old new : ℕ) → notify Replies (withReplies 8 256 page first (pieceReplies (requestsFrom page first count) frame)) old new ≡ notify Replies page old new
     pieces-notify old new =
-        notify-replied 8 256 (omega arith) page (omega arith) first (pieceReplies (requestsFrom page first count) frame) (pieces-short (requestsFrom page first count) frame) old new
+        notify-replied 8 256 (omega arith) page (omega arith) first (pieceReplies (requestsFrom page first count) frame) (pieces-short (requestsFrom page first count) frame) Replies old new

@@ -5,10 +5,11 @@ use mathlib.Core.Bool.{Bool, not, cond, _||_}
 use Prim.Native.Nat.{ℕ, suc, _+_, _/_}
 use lib.ListN.{length, take, drop}
 use lib.Dec.{ltb, eqb}
-use Rattle.ring.specs.Ring.{pageSize, posted, asking, notify, wadd, withRspProd, slotsFrom, withReplies}
+use Rattle.ring.specs.Ring.{pageSize, posted, asking, notify, wadd, withProducer, slotsFrom, withReplies}
+use Rattle.ring.specs.declared.Side.the-variants.{Replies}
 use Rattle.grant.specs.Grant.{fitReceive, pageOf, withPage}
 use Rattle.netif.specs.Slot.{Slot, requestWidth, requestCount, error, requestIdent, requestGref, receiveReply}
-use Rattle.netif.specs.Report.{halt, goOn, Report, flag, plain, spoiledReport, reportOf}
+use Rattle.netif.specs.Report.{halt, goOn, Report, plain, spoiledReport, doneWith, reportOf}
 use Rattle.netif.specs.Verdict.{test, _orElse_}
 use Rattle.netif.specs.declared.Queue.{Queue}
 use Rattle.netif.specs.declared.Outcome.{Outcome}
@@ -66,21 +67,6 @@ errorReply s = receiveReply (requestIdent s) 0 0 error
 abbrev pub errorReplies : List Slot → List (List ℕ)
 errorReplies l = map errorReply l
 
--- done: requests consumed, notify, and the frame's length
-abbrev pub receiveReport : ℕ → Bool → ℕ → Report
-receiveReport n notified total = record {
-  answer = 0;
-  cause = 0;
-  place = 0;
-  slots = n;
-  notifies = flag notified;
-  total = total;
-  blank = 0;
-  validated = 0;
-  gsoSizeWord = 0;
-  gsoTypeWord = 0;
-}
-
 -- what a call leaves
 pub record Delivery : Type 0 where
   pub report : Report
@@ -94,14 +80,14 @@ told n q page window = record { report = plain n; queue = q; page = page; window
 
 -- replies from a counter on, and rsp_prod behind them
 abbrev pub replied : List ℕ → ℕ → ℕ → List (List ℕ) → List ℕ
-replied page old new rs = withRspProd (withReplies requestWidth requestCount page old rs) new
+replied page old new rs = withProducer Replies (withReplies requestWidth requestCount page old rs) new
 
 -- one of the requests is unfit: all get an error, and no page is written
 unfoldable pub refuse : (old : ℕ) (page window : List ℕ) (requests : List Slot) (cause place : ℕ) → Delivery
 refuse old page window requests cause place =
     let new = wadd old (length requests) in
     record {
-      report = spoiledReport cause place (length requests) (notify page old new);
+      report = spoiledReport cause place (length requests) (notify Replies page old new);
       queue = goOn new;
       page = replied page old new (errorReplies requests);
       window = window;
@@ -112,7 +98,7 @@ unfoldable pub deliver : (old : ℕ) (page window : List ℕ) (requests : List S
 deliver old page window requests pages frame =
     let new = wadd old (length requests) in
     record {
-      report = receiveReport (length requests) (notify page old new) (length frame);
+      report = doneWith (length requests) (notify Replies page old new) (length frame);
       queue = goOn new;
       page = replied page old new (pieceReplies requests frame);
       window = scatter window pages frame;

@@ -10,7 +10,7 @@ ghost use Rattle.grant.specs.Found.{writePage};
 ghost use Rattle.netif.specs.Slot.{requestWidth, requestCount, requestIdent, receiveReply};
 ghost use Rattle.netif.specs.Report.{halt, goOn};
 ghost use Rattle.receive.specs.Put.{pieceSize, badLength, needed, requestsFrom, replyFlags, scatter, pieceReplies, errorReplies, refuse, deliver, settle, receivePut, Delivered};
-ghost use Rattle.receive.specs.Stages.{AllUsable, Judged, Finished, Concluded};
+ghost use Rattle.receive.specs.Stages.{AllUsable, Judged, Concluded};
 use grant::Page;
 use netif::Answer;
 use netif::Outcome;
@@ -18,6 +18,7 @@ use netif::Queue;
 use netif::Request;
 use netif::Summary;
 use netif::Verdict;
+use ring::Side;
 
 const SHORTEST: usize = 14;
 
@@ -66,14 +67,14 @@ fn go_on(consumed: u32) -> Queue
 }
 
 // Whether a length is none that a frame may have.
-fn bad_length(size: usize) -> bool
+pub fn bad_length(size: usize) -> bool
     ensures { λ r. ⌜ r ≡ badLength size ⌝ }
 {
     size < SHORTEST || LONGEST < size
 }
 
 // The requests that a frame needs: one for each piece.
-fn needed(size: usize) -> u32
+pub fn needed(size: usize) -> u32
     requires { ⌜ size ≤ 65535 ⌝ }
     ensures { λ r. ⌜ r ≡ needed size ⌝ }
 {
@@ -81,7 +82,7 @@ fn needed(size: usize) -> u32
 }
 
 // The length of piece i of a frame.
-fn piece_of(size: usize, i: usize) -> usize
+pub fn piece_of(size: usize, i: usize) -> usize
     requires { ⌜ pieceSize * i ≤ size ⌝ }
     ensures { λ r. ⌜ r ≡ min pieceSize (size - pieceSize * i) ⌝ }
 {
@@ -126,21 +127,28 @@ fn judge(
     Verdict::Good
 }
 
-// Writes the pieces of a frame to the pages of the table, in order.
-fn scatter(window: &mut [u8], pages: &[u32; MOST], count: usize, frame: &[u8])
+// Writes the pieces of a frame to the pages of the table, in order. All but the last are whole pages: of these the compiler knows the
+// length.
+pub fn scatter(window: &mut [u8], pages: &[u32; MOST], count: usize, frame: &[u8])
     requires { ⌜
         (length (now pages) ≡ 16)
         × (count ≤ 16)
         × (pieceSize * count ≤ length (now frame) + 4095)
+        × (length (now frame) ≤ pieceSize * count)
         × AllUsable (length (now window)) (take count (now pages)) ⌝ }
     ensures { λ _. ⌜ now (window .exit) ≡ scatter (now (window .entry)) (take count (now (pages .entry))) (now (frame .entry)) ⌝ }
 {
     let mut i: usize = 0;
-    while i < count {
+    while i + 1 < count {
         let a = PIECE * i;
-        let b = a + piece_of(frame.len(), i);
+        let b = a + PIECE;
         grant::write(window, pages[i], &frame[a..b]);
         i += 1;
+    }
+    if i < count {
+        let a = PIECE * i;
+        let b = frame.len();
+        grant::write(window, pages[i], &frame[a..b]);
     }
 }
 
@@ -198,15 +206,6 @@ fn reply_errors(ring: &mut [u8], first: u32, count: u32)
     }
 }
 
-// Moves rsp_prod behind the replies, and tells whether to notify the guest.
-fn finish(ring: &mut [u8], old: u32, new: u32) -> bool
-    requires { ⌜ length (now ring) ≡ pageSize ⌝ }
-    ensures { λ r. ⌜ Finished (now (ring .entry)) old new (now (ring .exit)) r ⌝ }
-{
-    ring::publish(ring, new);
-    ring::notify(ring, old, new)
-}
-
 // Consumes requests of which one is unfit: each gets an error. The window is not lent, so it stays.
 fn refuse(ring: &mut [u8], old: u32, count: u32, cause: u32, place: u32) -> Outcome
     requires { ⌜ (length (now ring) ≡ pageSize) × (count ≤ 16) ⌝ }
@@ -217,7 +216,7 @@ fn refuse(ring: &mut [u8], old: u32, count: u32, cause: u32, place: u32) -> Outc
 {
     let new = ring::ahead(old, count);
     reply_errors(ring, old, count);
-    let notify = finish(ring, old, new);
+    let notify = ring::publish(ring, Side::Replies, old, new);
     let slots = count;
     let answer = Answer::Spoiled {
         cause,
@@ -234,7 +233,7 @@ fn conclude(ring: &mut [u8], old: u32, count: u32, total: u32) -> Outcome
     ensures { λ r. ⌜ Concluded (now (ring .entry)) old count total (now (ring .exit)) r ⌝ }
 {
     let new = ring::ahead(old, count);
-    let notify = finish(ring, old, new);
+    let notify = ring::publish(ring, Side::Replies, old, new);
     let summary = Summary {
         slots: count,
         notify,

@@ -1,5 +1,5 @@
--- What holds of every ring page, for a ring of n slots of w bytes each: its slots do not overlap, and what the backend stores
--- there, a reply, req_event or rsp_prod, is read back and leaves all else. `Ring` has the same of a row of replies.
+-- What holds of every ring page, for a ring of n slots of w bytes each: its slots do not overlap, and what is stored
+-- there, a reply, req_event or a side's counter, is read back and leaves all else. `Ring` has the same of a row of replies.
 use mathlib.Core.Path.{_≡_, sym, ap, _∙_}
 use mathlib.Core.Logic.{_≢_, _⊎_}
 use mathlib.Core.List.{List}
@@ -9,7 +9,9 @@ use native.Mathlib.Omega.{arith}
 use lib.ListN.{length, getD}
 use Rattle.words.specs.Word.{u32At, u32Bytes, splice}
 use Rattle.words.proofs.Word.{splice-length, splice-before, splice-after, splice-inside, u32-same, u32-stored}
-use Rattle.ring.specs.Ring.{wrap, wadd, reqProd, reqEvent, rspProd, rspEvent, withReqEvent, withRspProd, asking, slotPlace, slotAt}
+use Rattle.ring.specs.Ring.{wrap, wadd, reqProd, reqEvent, rspProd, rspEvent, producerAt, withProducer, notify, withReqEvent, asking, slotPlace, slotAt}
+use Rattle.ring.specs.declared.Side.{Side}
+use Rattle.ring.specs.declared.Side.the-variants.{Requests, Replies}
 use Rattle.ring.proofs.Ring.{same-turn, places-apart, reply-length, reply-header, reply-slot, reply-here, slot-length, header-slot}
 
 -- ---- slots of different counters
@@ -80,6 +82,10 @@ module _ (page : List ℕ) (header : 64 ≤ length page) (a x : ℕ) (field : a 
   unfolding u32Bytes
   stored-above b h = u32-same (splice page a (u32Bytes x)) page b (λ j f g. splice-after page a (u32Bytes x) (omega arith) j (omega arith))
 
+pub producer-low : (s : Side) → producerAt s ≤ 8
+producer-low Requests = omega arith
+producer-low Replies = omega arith
+
 module _ (page : List ℕ) (header : 64 ≤ length page) (x : ℕ) where
   -- req_event
   pub event-leaves-size : length (withReqEvent page x) ≡ length page
@@ -98,22 +104,42 @@ module _ (page : List ℕ) (header : 64 ≤ length page) (x : ℕ) where
   unfolding withReqEvent
   event-read-back = u32-stored page 4 x (omega arith)
 
-  -- rsp_prod
-  pub responses-leave-size : length (withRspProd page x) ≡ length page
-  unfolding withRspProd
-  responses-leave-size = stored-size page header 8 x (omega arith)
+-- a side's counter
+module _ (page : List ℕ) (header : 64 ≤ length page) (s : Side) (x : ℕ) where
+  pub producer-leaves-size : length (withProducer s page x) ≡ length page
+  unfolding withProducer
+  producer-leaves-size = stored-size page header (producerAt s) x (omega (arith, producer-low s))
 
-  pub responses-leave-counters : (reqProd (withRspProd page x) ≡ reqProd page) × (reqEvent (withRspProd page x) ≡ reqEvent page) × (rspEvent (withRspProd page x) ≡ rspEvent page)
-  unfolding withRspProd
-  responses-leave-counters = (stored-below page header 8 x (omega arith) 0 (omega arith), stored-below page header 8 x (omega arith) 4 (omega arith), stored-above page header 8 x (omega arith) 12 (omega arith))
+  pub producer-leaves-events : (reqEvent (withProducer s page x) ≡ reqEvent page) × (rspEvent (withProducer s page x) ≡ rspEvent page)
+  unfolding withProducer
+  producer-leaves-events = go s
+    where
+      go : (s : Side) → (reqEvent (splice page (producerAt s) (u32Bytes x)) ≡ reqEvent page) × (rspEvent (splice page (producerAt s) (u32Bytes x)) ≡ rspEvent page)
+      go Requests = (stored-above page header 0 x (omega arith) 4 (omega arith), stored-above page header 0 x (omega arith) 12 (omega arith))
+      go Replies = (stored-below page header 8 x (omega arith) 4 (omega arith), stored-above page header 8 x (omega arith) 12 (omega arith))
 
-  pub responses-leave-slot : (w n : ℕ) → 0 < n → 64 + w * n ≤ length page → (j : ℕ) → slotAt w n (withRspProd page x) j ≡ slotAt w n page j
-  unfolding withRspProd u32Bytes
-  responses-leave-slot w n some fits = header-slot w n some page 8 (u32Bytes x) (omega arith) fits
+  pub producer-leaves-slot : (w n : ℕ) → 0 < n → 64 + w * n ≤ length page → (j : ℕ) → slotAt w n (withProducer s page x) j ≡ slotAt w n page j
+  unfolding withProducer u32Bytes
+  producer-leaves-slot w n some fits = header-slot w n some page (producerAt s) (u32Bytes x) (omega (arith, producer-low s)) fits
 
-  pub responses-read-back : rspProd (withRspProd page x) ≡ x % wrap
-  unfolding withRspProd
-  responses-read-back = u32-stored page 8 x (omega arith)
+  pub producer-read-back : u32At (withProducer s page x) (producerAt s) ≡ x % wrap
+  unfolding withProducer
+  producer-read-back = u32-stored page (producerAt s) x (omega (arith, producer-low s))
+
+  -- the other side's wish for an event stays
+  pub notify-moved : (old new : ℕ) → notify s (withProducer s page x) old new ≡ notify s page old new
+  unfolding withProducer notify
+  notify-moved old new = rw (stored-above page header (producerAt s) x (omega (arith, producer-low s)) (producerAt s + 4) (omega arith))
+
+-- the backend's counter leaves the guest's, and the other way round
+module _ (page : List ℕ) (header : 64 ≤ length page) (x : ℕ) where
+  pub replies-leave-requests : reqProd (withProducer Replies page x) ≡ reqProd page
+  unfolding withProducer
+  replies-leave-requests = stored-below page header 8 x (omega arith) 0 (omega arith)
+
+  pub requests-leave-replies : rspProd (withProducer Requests page x) ≡ rspProd page
+  unfolding withProducer
+  requests-leave-replies = stored-above page header 0 x (omega arith) 8 (omega arith)
 
 -- asking for an event: req_event is then req_prod and one, across the wrap
 pub asked : (page : List ℕ) → 64 ≤ length page → reqEvent (asking page) ≡ wadd (reqProd page) 1

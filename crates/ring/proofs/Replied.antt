@@ -1,5 +1,5 @@
 -- Replies one by one, over the slot's width and the number of slots, as a loop writes them: the slots that are left meanwhile, and
--- what replies leave of the guest's wish for an event.
+-- that replies leave both sides' wishes for an event.
 use mathlib.Core.Path.{_≡_, refl, sym, ap, _∙_}
 use mathlib.Core.List.{List, [], _∷_}
 use Prim.Native.Nat.{ℕ, suc, _+_, _-_, _*_, _%_, _≤_, _<_}
@@ -7,9 +7,11 @@ use native.Mathlib.Omega.{arith}
 use native.Mathlib.Numerals.{add-one}
 use lib.ListN.{length, take, getD}
 use lib.Seq.{length-take-le, take-suc}
-use Rattle.words.specs.Word.{u32Bytes, splice}
-use Rattle.words.proofs.Word.{u32-same, splice-after}
-use Rattle.ring.specs.Ring.{wrap, wadd, notify, withRspProd, slotPlace, slotAt, slotsFrom, withReplies}
+use Rattle.words.specs.Word.{splice}
+use Rattle.words.proofs.Word.{u32-same}
+use Rattle.ring.specs.Ring.{wrap, wadd, producerAt, notify, slotPlace, slotAt, slotsFrom, withReplies}
+use Rattle.ring.specs.declared.Side.{Side}
+use Rattle.ring.proofs.Facts.{producer-low}
 use Rattle.ring.proofs.Ring.{slot-wrap, place-wrap, replies-more, Short, short-take, replies-slot, replies-header}
 
 -- ---- the counter i slots on
@@ -48,15 +50,9 @@ module _ (w n : ℕ) (some : 0 < n) (turn : wrap % n ≡ 0) (page : List ℕ) (f
       ∙ sym (rw e at (replies-more w n (take i rs) page first (getD rs i [])))
       ∙ rw (add-one i, take-suc rs i [] h)
 
--- replies leave the guest's wish for an event
+-- what is written to slots leaves both sides' wishes for an event
 pub notify-replied : (w n : ℕ) → 0 < n → (page : List ℕ) → 64 + w * n ≤ length page → (first : ℕ) (rs : List (List ℕ)) → Short w rs
-    → (old new : ℕ) → notify (withReplies w n page first rs) old new ≡ notify page old new
+    → (s : Side) (old new : ℕ) → notify s (withReplies w n page first rs) old new ≡ notify s page old new
 unfolding notify
-notify-replied w n some page fits first rs short old new =
-    rw (u32-same (withReplies w n page first rs) page 12 (λ j a b. replies-header w n some rs page first fits short j (omega arith)))
-
--- so does rsp_prod
-pub notify-published : (page : List ℕ) → 16 ≤ length page → (x old new : ℕ) → notify (withRspProd page x) old new ≡ notify page old new
-unfolding notify withRspProd u32Bytes
-notify-published page h x old new =
-    rw (u32-same (splice page 8 (u32Bytes x)) page 12 (λ j a b. splice-after page 8 (u32Bytes x) (omega arith) j (omega arith)))
+notify-replied w n some page fits first rs short s old new =
+    rw (u32-same (withReplies w n page first rs) page (producerAt s + 4) (λ j a b. replies-header w n some rs page first fits short j (omega (arith, producer-low s))))

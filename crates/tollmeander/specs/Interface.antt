@@ -8,6 +8,9 @@ use Rattle.netif.specs.declared.Queue.{Queue}
 use Rattle.netif.specs.Report.{Report, flag}
 use Rattle.transmit.specs.Take.{transmitTake}
 use Rattle.receive.specs.Put.{receivePut}
+use Rattle.frontend.specs.declared.Gso.{Gso}
+use Rattle.frontend.specs.declared.Gso.the-variants.{Absent, Given}
+use Rattle.frontend.specs.Post.{post}
 
 -- the queue that two words say: the mark is 0, or anything else for halted
 unfoldable pub queueOf : (consumed mark : ℕ) → Queue
@@ -40,3 +43,14 @@ pub record ReceiveLeaves (grants window : List ℕ) (consumed mark : ℕ) (ring 
   pub told : Leaves (receivePut grants (queueOf consumed mark) ring window frame .report) (receivePut grants (queueOf consumed mark) ring window frame .queue) mark returned consumedAfter markLeft words
   pub page : ringAfter ≡ receivePut grants (queueOf consumed mark) ring window frame .page
   pub pages : windowAfter ≡ receivePut grants (queueOf consumed mark) ring window frame .window
+
+-- the gso that three words say: none where the first is 0
+unfoldable pub gsoOf : (given size type : ℕ) → Gso
+gsoOf given size type = cond (eqb given 0) Absent (Given size type)
+
+-- posting, lent a count of replies read, gso words, grants, a window, a ring page, references and a frame
+pub record PostLeaves (grants window : List ℕ) (read given size type : ℕ) (ring refs frame : List ℕ) (returned : ℕ) (ringAfter windowAfter words : List ℕ) : Type 0 where
+  pub returns : returned ≡ post grants ring window read (gsoOf given size type) refs frame .report .answer
+  pub reports : words ≡ reportWords (post grants ring window read (gsoOf given size type) refs frame .report)
+  pub page : ringAfter ≡ post grants ring window read (gsoOf given size type) refs frame .page
+  pub pages : windowAfter ≡ post grants ring window read (gsoOf given size type) refs frame .window

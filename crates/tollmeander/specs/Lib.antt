@@ -1,2 +1,3 @@
 -- The definitions that the promises cite.
 pub mod Interface
+pub mod PostThenTake

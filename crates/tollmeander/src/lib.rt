@@ -1,8 +1,10 @@
-// The C interface of the two calls.
+// The C interface of the calls.
 ghost use mathlib.Core.Path.{_≡_};
-ghost use Rattle.netif.specs.Report.{flag, plain, spoiledReport, reportOf};
+ghost use Rattle.frontend.specs.Post.{reportOf as postReportOf};
+ghost use Rattle.netif.specs.Report.{flag, plain, spoiledReport, doneWith, reportOf};
 ghost use Rattle.netif.specs.declared.Answer.the-variants.{Done};
-ghost use Rattle.tollmeander.specs.Interface.{queueOf, markAfter, reportWords, TransmitLeaves, ReceiveLeaves};
+ghost use Rattle.tollmeander.specs.Interface.{queueOf, markAfter, reportWords, TransmitLeaves, ReceiveLeaves, gsoOf, PostLeaves};
+use frontend::Gso;
 use netif::Answer;
 use netif::Queue;
 use netif::Summary;
@@ -34,7 +36,7 @@ fn mark_after(mark: u32, halted: bool) -> u32
     mark
 }
 
-// The report of an answer that consumes nothing: its number, and zeros.
+// The report of an answer that does nothing more: its number, and zeros.
 fn write_number(report: &mut [u32; 10], number: u32) -> u32
     ensures { λ r. ⌜ (r ≡ number) × (now (report .exit) ≡ reportWords (plain number)) ⌝ }
 {
@@ -151,4 +153,60 @@ pub extern "C" fn tollmeander_receive_put(
     *halted = mark_after(mark, after.halted);
     let answer = outcome.answer;
     write(report, answer)
+}
+
+// The gso that three words say: none where the first is 0.
+fn gso_of(given: u32, size: u16, kind: u8) -> Gso
+    ensures { λ r. ⌜ r ≡ gsoOf given size kind ⌝ }
+{
+    if given == 0 {
+        return Gso::Absent;
+    }
+    Gso::Given { size, kind }
+}
+
+// The report of a frame that is posted.
+fn write_posted(report: &mut [u32; 10], slots: u32, notify: bool) -> u32
+    ensures { λ r. ⌜ (r ≡ 0) × (now (report .exit) ≡ reportWords (doneWith slots notify 0)) ⌝ }
+{
+    let notified = word(notify);
+    *report = [0, 0, 0, slots, notified, 0, 0, 0, 0, 0];
+    0
+}
+
+// All ten words of a report of posting; the answer's number.
+fn write_post(report: &mut [u32; 10], answer: frontend::Answer) -> u32
+    ensures { λ r. ⌜ (r ≡ postReportOf answer .answer) × (now (report .exit) ≡ reportWords (postReportOf answer)) ⌝ }
+{
+    match answer {
+        frontend::Answer::Posted { slots, notify } => write_posted(report, slots, notify),
+        frontend::Answer::BadPage => write_number(report, 1),
+        frontend::Answer::BadLength => write_number(report, 9),
+        frontend::Answer::NoSlots => write_number(report, 11),
+        frontend::Answer::BadPages => write_number(report, 12),
+        frontend::Answer::BadGso => write_number(report, 13),
+    }
+}
+
+// Lays a frame into the pages that references name, and posts it on a transmit ring as one packet.
+#[no_mangle]
+pub extern "C" fn tollmeander_transmit_post(
+    replies_read: u32,
+    ring: &mut [u8],
+    grants: &[u8],
+    window: &mut [u8],
+    references: &[u32],
+    frame: &[u8],
+    gso: u32,
+    gso_size: u16,
+    gso_type: u8,
+    report: &mut [u32; 10],
+) -> u32
+    ensures { λ r. ⌜
+        PostLeaves (now (grants .entry)) (now (window .entry)) «replies_read» gso «gso_size» «gso_type» (now (ring .entry))
+        (now (references .entry)) (now (frame .entry)) r (now (ring .exit)) (now (window .exit)) (now (report .exit)) ⌝ }
+{
+    let extra = gso_of(gso, gso_size, gso_type);
+    let answer = post::post(replies_read, extra, grants, window, references, ring, frame);
+    write_post(report, answer)
 }

@@ -8,7 +8,9 @@ use lib.ListN.{length, take, getD, length-append, length-take, length-drop, leng
 use lib.Dec.{eqb}
 use borrow.Author.Tests.{eq-eqb, ne-eqb, lt-ltb, le-ltb}
 use Rattle.words.specs.Word.{u16Bytes, u32Bytes}
-use Rattle.ring.specs.Ring.{wadd, reqProd, posted, asking, withReqEvent, withRspProd, slotAt, slotsFrom}
+use Rattle.ring.specs.Ring.{wadd, reqProd, posted, asking, withReqEvent, slotAt, slotsFrom}
+use Rattle.ring.specs.declared.Side.the-variants.{Replies}
+use Rattle.ring.proofs.Facts.{producer-leaves-size, producer-leaves-slot, replies-leave-requests}
 use Rattle.netif.specs.Slot.{Slot, slotWidth, slotCount, transmitReply}
 use Rattle.netif.specs.Divide.{whole, beginning, misshapen, divide, onCut}
 use Rattle.netif.specs.declared.Queue.{Queue}
@@ -85,37 +87,30 @@ module _ (page : List ℕ) (size : length page ≡ 4096) (c slots e status : ℕ
       replies-slot 12 256 (omega arith) all page c (omega arith) (replies-short e _ status) j
       (omega (arith, replies-count e (slotsFrom slotWidth slotCount page c slots) status (omega arith))) b
 
--- rsp_prod
-module _ (page : List ℕ) (size : length page ≡ 4096) (x : ℕ) where
-  pub producer-length : length (withRspProd page x) ≡ 4096
-  unfolding withRspProd u32Bytes
-  producer-length = splice-length page 8 _ (omega arith) ∙ size
-
-  pub producer-header : (j : ℕ) → j < 8 → getD (withRspProd page x) j 0 ≡ getD page j 0
-  unfolding withRspProd u32Bytes
-  producer-header j h = splice-before page 8 _ (omega arith) j h
-
-  pub producer-slot : (j : ℕ) → slotAt slotWidth slotCount (withRspProd page x) j ≡ slotAt slotWidth slotCount page j
-  unfolding withRspProd u32Bytes
-  producer-slot j = header-slot 12 256 (omega arith) page 8 _ (omega arith) (omega arith) j
-
 module _ (page : List ℕ) (size : length page ≡ 4096) (c slots e status : ℕ) where
+  abbrev answered : List ℕ
+  answered = repliesTo page c slots e status
+
+  header : 64 ≤ length answered
+  header = omega (arith, to-length page size c slots e status)
+
   pub replied-length : length (repliedPage page c slots e status) ≡ 4096
   unfolding repliedPage
-  replied-length = producer-length (repliesTo page c slots e status) (to-length page size c slots e status) (wadd c slots)
+  replied-length = producer-leaves-size answered header Replies (wadd c slots) ∙ to-length page size c slots e status
 
   pub replied-requests : reqProd (repliedPage page c slots e status) ≡ reqProd page
   unfolding repliedPage
   replied-requests =
-      u32-same (repliedPage page c slots e status) page 0 (λ j a b.
-      producer-header (repliesTo page c slots e status) (to-length page size c slots e status) (wadd c slots) j (omega arith)
-      ∙ to-header page size c slots e status j (omega arith))
+      replies-leave-requests answered header (wadd c slots)
+      ∙ u32-same answered page 0 (λ j a b. to-header page size c slots e status j (omega arith))
+
+  -- rsp_prod leaves the slots
+  pub replied-slots : (j : ℕ) → slotAt slotWidth slotCount (repliedPage page c slots e status) j ≡ slotAt slotWidth slotCount answered j
+  unfolding repliedPage
+  replied-slots j = producer-leaves-slot answered header Replies (wadd c slots) 12 256 (omega arith) (omega (arith, to-length page size c slots e status)) j
 
   pub replied-slot : e < slots → (j : ℕ) → c + slots ≤ j → j < c + 256 → slotAt slotWidth slotCount (repliedPage page c slots e status) j ≡ slotAt slotWidth slotCount page j
-  unfolding repliedPage
-  replied-slot h j a b =
-      producer-slot (repliesTo page c slots e status) (to-length page size c slots e status) (wadd c slots) j
-      ∙ to-slot page size c slots e status h j a b
+  replied-slot h j a b = replied-slots j ∙ to-slot page size c slots e status h j a b
 
 module _ (table window : List ℕ) (q : Queue) (page : List ℕ) where
   -- ---- the cases of a call

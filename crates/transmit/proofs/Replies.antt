@@ -23,7 +23,7 @@ use Rattle.netif.specs.Packet.{extrasOf, laterOf}
 use Rattle.packet.specs.Judge.{dataReply, extraReply, repliesOf}
 use Rattle.transmit.specs.Take.{repliesTo, repliedPage}
 use Rattle.transmit.specs.Code.{repliedBy}
-use Rattle.transmit.proofs.Cases.{short-map, data-short, extra-short, replies-short, replies-count, to-length, producer-slot}
+use Rattle.transmit.proofs.Cases.{short-map, data-short, extra-short, replies-short, replies-count, replied-slots}
 
 -- ---- a run of replies, each made by f of its slot
 
@@ -163,7 +163,7 @@ unfolding repliedPage repliesTo
 replied-at page size c slots e status some few i h =
     let n : length (slotsFrom 12 256 page c slots) ≡ slots = slots-length 12 256 page slots c in
     let m : length (repliesOf e (slotsFrom 12 256 page c slots) status) ≡ slots = replies-count e (slotsFrom 12 256 page c slots) status (omega arith) ∙ n in
-    producer-slot (repliesTo page c slots e status) (to-length page size c slots e status) (wadd c slots) (c + i)
+    replied-slots page size c slots e status (c + i)
     ∙ replies-here 12 256 (omega arith) (repliesOf e (slotsFrom 12 256 page c slots) status) page c (omega arith) (replies-short e (slotsFrom 12 256 page c slots) status) (omega arith) i (omega arith)
     ∙ ap (splice (slotAt 12 256 page (c + i)) 0)
     (replies-at e (slotsFrom 12 256 page c slots) status i (omega arith) (omega arith) ∙ ap (replyAt e i status) (slots-at 12 256 page slots c i h))

@@ -11,8 +11,9 @@ use borrow.Author.Tests.{lt-ltb, le-ltb}
 use Rattle.words.specs.Word.{splice, bit}
 use Rattle.words.proofs.Lists.{map-at}
 use Rattle.ring.specs.Ring.{wadd, notify, slotsFrom}
+use Rattle.ring.specs.declared.Side.the-variants.{Replies}
 use Rattle.ring.proofs.Ring.{slots-length, slots-take}
-use Rattle.ring.proofs.Replied.{notify-replied, notify-published}
+use Rattle.ring.proofs.Replied.{notify-replied}
 use Rattle.grant.proofs.Grant.{fit-page, range-page}
 use Rattle.netif.specs.Slot.{Slot, gref, offset, size, okay, error}
 use Rattle.netif.specs.Packet.{firstOf, laterOf, sizes}
@@ -35,16 +36,15 @@ use Rattle.packet.specs.Stages.{packetAt, Ready, HoldsParts}
 use Rattle.transmit.specs.Code.{ConsumedAs, Gives}
 use Rattle.transmit.specs.declared.Consumed.{Consumed}
 use Rattle.packet.proofs.Judge.{orElse-good, slot-granted, good-parts}
-use Rattle.transmit.proofs.Cases.{to-length, replies-short}
+use Rattle.transmit.proofs.Cases.{replies-short}
 use Rattle.packet.proofs.Plans.{total-of, sum-of, blank-of, validated-of, gso-size-of, gso-type-of}
 
 -- ---- notify
 
-pub notify-stays : (page : List ℕ) → length page ≡ 4096 → (c slots e status old new : ℕ) → notify (repliedPage page c slots e status) old new ≡ notify page old new
-unfolding repliedPage repliesTo
+pub notify-stays : (page : List ℕ) → length page ≡ 4096 → (c slots e status old new : ℕ) → notify Replies (repliesTo page c slots e status) old new ≡ notify Replies page old new
+unfolding repliesTo
 notify-stays page size c slots e status old new =
-    notify-published (repliesTo page c slots e status) (omega (arith, to-length page size c slots e status)) (wadd c slots) old new
-    ∙ notify-replied 12 256 (omega arith) page (omega arith) c (repliesOf e (slotsFrom 12 256 page c slots) status) (replies-short e (slotsFrom 12 256 page c slots) status) old new
+    notify-replied 12 256 (omega arith) page (omega arith) c (repliesOf e (slotsFrom 12 256 page c slots) status) (replies-short e (slotsFrom 12 256 page c slots) status) Replies old new
 
 -- ---- what stands at the front
 
@@ -194,7 +194,7 @@ module _ (page : List ℕ) (c : ℕ) (o : Outline) (e : ℕ) (p : List Slot) (sl
       → Gives (spoiled c page frame e p cause place) (record { answer = Spoiled cause place (o .slots) (r .notify); queue = record { consumed = r .counter; halted = false } }) after frame
   unfolding spoiled
   gives-spoiled cause place h frame =
-      let n : r .notify ≡ notify page c (wadd c (length p)) = h .notifyIs ∙ ap (λ (x : ℕ). notify page c (wadd c x)) slots in
+      let n : r .notify ≡ notify Replies page c (wadd c (length p)) = h .notifyIs ∙ ap (λ (x : ℕ). notify Replies page c (wadd c x)) slots in
       record {
         report = λ i. spoiledReport cause place (slots i) (n i);
         queue = ap goOn (h .counterIs ∙ ap (wadd c) slots);
@@ -211,7 +211,7 @@ module _ (page : List ℕ) (c : ℕ) (o : Outline) (e : ℕ) (p : List Slot) (sl
       after (splice frame 0 (frameOf table window e p))
   unfolding handedOver doneReport
   gives-done b v is bs vs h table window frame =
-      let n : r .notify ≡ notify page c (wadd c (length p)) = h .notifyIs ∙ ap (λ (x : ℕ). notify page c (wadd c x)) slots in
+      let n : r .notify ≡ notify Replies page c (wadd c (length p)) = h .notifyIs ∙ ap (λ (x : ℕ). notify Replies page c (wadd c x)) slots in
       record {
         report = λ i. record {
           answer = 0;

@@ -3,6 +3,7 @@ use mathlib.Core.Path.{_≡_}
 use mathlib.Core.List.{List, map}
 use Prim.Native.Nat.{ℕ}
 use Rattle.ring.specs.Ring.{wadd, notify, slotsFrom, withReplies}
+use Rattle.ring.specs.declared.Side.the-variants.{Replies}
 use Rattle.netif.specs.Slot.{Slot, slotWidth, slotCount}
 use Rattle.netif.specs.Report.{reportOf}
 use Rattle.netif.specs.declared.DataSlot.{DataSlot}
@@ -27,7 +28,7 @@ takeWhole table window q page frame e p = takePacket table window q page frame e
 -- slots from counter old on were replied to and published
 pub record ConsumedAs (page : List ℕ) (old slots extras status : ℕ) (after : List ℕ) (r : Consumed) : Type 0 where
   pub counterIs : r .counter ≡ wadd old slots
-  pub notifyIs : r .notify ≡ notify page old (wadd old slots)
+  pub notifyIs : r .notify ≡ notify Replies page old (wadd old slots)
   pub pageIs : after ≡ repliedPage page old slots extras status
 
 -- the page where the k slots from slot n on got the replies that f gives them

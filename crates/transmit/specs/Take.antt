@@ -5,7 +5,8 @@ use Prim.Native.Nat.{ℕ, _+_}
 use lib.ListN.{length, take}
 use lib.Dec.{ltb, eqb}
 use Rattle.words.specs.Word.{splice}
-use Rattle.ring.specs.Ring.{pageSize, posted, asking, notify, wadd, withRspProd, slotsFrom, withReplies}
+use Rattle.ring.specs.Ring.{pageSize, posted, asking, notify, wadd, withProducer, slotsFrom, withReplies}
+use Rattle.ring.specs.declared.Side.the-variants.{Replies}
 use Rattle.netif.specs.Slot.{Slot, slotWidth, slotCount, okay, error, checksumBlank, dataValidated}
 use Rattle.netif.specs.Packet.{firstOf, gsoSizeOf, gsoTypeOf}
 use Rattle.netif.specs.Divide.{divide, onCut}
@@ -55,12 +56,12 @@ repliesTo page c slots extras status = withReplies slotWidth slotCount page c (r
 
 -- and with rsp_prod behind them
 unfoldable pub repliedPage : List ℕ → (c slots extras status : ℕ) → List ℕ
-repliedPage page c slots extras status = withRspProd (repliesTo page c slots extras status) (wadd c slots)
+repliedPage page c slots extras status = withProducer Replies (repliesTo page c slots extras status) (wadd c slots)
 
 -- a spoiled packet at counter c: all its slots consumed and replied to, the frame buffer as found
 unfoldable pub spoiled : ℕ → List ℕ → List ℕ → ℕ → List Slot → ℕ → ℕ → Outcome
 spoiled c page frame e p cause place = record {
-  report = spoiledReport cause place (length p) (notify page c (wadd c (length p)));
+  report = spoiledReport cause place (length p) (notify Replies page c (wadd c (length p)));
   queue = goOn (wadd c (length p));
   page = repliedPage page c (length p) e error;
   frame = frame;
@@ -75,7 +76,7 @@ module _ (table window : List ℕ) where
   -- a good packet at counter c: handed over
   unfoldable pub handedOver : ℕ → List ℕ → List ℕ → ℕ → List Slot → Outcome
   handedOver c page frame e p = record {
-    report = doneReport e p (notify page c (wadd c (length p)));
+    report = doneReport e p (notify Replies page c (wadd c (length p)));
     queue = goOn (wadd c (length p));
     page = repliedPage page c (length p) e okay;
     frame = splice frame 0 (frameOf table window e p);

@@ -25,6 +25,7 @@ use netif::Summary;
 use netif::Verdict;
 use netif::divider::Front;
 use netif::divider::Outline;
+use ring::Side;
 
 const OKAY: u16 = 0;
 
@@ -43,8 +44,7 @@ fn consume(ring: &mut [u8], old: u32, slots: u32, extras: u32, status: u16) -> C
 {
     let counter = ring::ahead(old, slots);
     replying::reply(ring, old, slots, extras, status);
-    ring::publish(ring, counter);
-    let notify = ring::notify(ring, old, counter);
+    let notify = ring::publish(ring, Side::Replies, old, counter);
     Consumed { counter, notify }
 }
 

@@ -1,6 +1,6 @@
 -- The laws of bytes and little-endian numbers in lists.
 use mathlib.Core.Path.{_≡_, refl, sym, ap, _∙_}
-use mathlib.Core.Bool.{Bool, true, false, _&&_}
+use mathlib.Core.Bool.{Bool, true, false, _&&_, _||_}
 use lib.Dec.{ltb}
 use borrow.Author.Tests.{ltb-true}
 use mathlib.Core.Logic.{_⊎_, inl, inr, ⊎-elim}
@@ -23,6 +23,10 @@ lt-or-ge (suc a) (suc b) = ⊎-elim (λ h. inl (omega arith)) (λ h. inr (omega 
 pub and-both : (a b : Bool) → a && b ≡ true → (a ≡ true) × (b ≡ true)
 and-both true b h = (refl, h)
 and-both false b h = absurd (let z : _≡_ {A = ℕ} 0 1 = cc in omega arith)
+
+pub or-none : (a b : Bool) → a || b ≡ false → (a ≡ false) × (b ≡ false)
+or-none true b h = absurd (let z : _≡_ {A = ℕ} 0 1 = cc in omega arith)
+or-none false b h = (refl, h)
 
 -- ---- splice
 
@@ -115,6 +119,13 @@ pub splice-front-more : (l s : List ℕ) (m n : ℕ) → m ≤ length s → m �
 splice-front-more l s m n h g =
     splice-join l 0 (take m s) (take n (drop m s)) m (omega (arith, length-take-le m s h)) g
     ∙ ap (splice l 0) (sym (take-add m n s))
+
+-- all of a list written over
+pub splice-all : (l b : List ℕ) → length l ≡ length b → splice l 0 b ≡ b
+unfolding splice
+splice-all l b h =
+    let none : drop (0 + length b) l ≡ [] = drop-of-length-le l {i = 0 + length b} (omega arith) in
+    rw none (append-nil b)
 
 -- the front of a list is what was written there
 pub splice-front : (l b : List ℕ) (n : ℕ) → length b ≡ n → take n (splice l 0 b) ≡ b
@@ -226,6 +237,45 @@ unfolding Bytes
 bytes-of [] h i = omega arith
 bytes-of (x ∷ l) h zero = ltb-true x 256 (and-both (ltb x 256) (allBytes l) h .0)
 bytes-of (x ∷ l) h (suc i) = bytes-of l (and-both (ltb x 256) (allBytes l) h .1) i
+
+bytes-none : Bytes []
+unfolding Bytes
+bytes-none i = omega arith
+
+pub bytes-cons : (x : ℕ) (l : List ℕ) → x < 256 → Bytes l → Bytes (x ∷ l)
+unfolding Bytes
+bytes-cons x l h k zero = h
+bytes-cons x l h k (suc i) = k i
+
+pub bytes-append : (l m : List ℕ) → Bytes l → Bytes m → Bytes (l ++ m)
+unfolding Bytes
+bytes-append [] m h k = k
+bytes-append (x ∷ l) m h k = bytes-cons x (l ++ m) (h 0) (bytes-append l m (λ i. h (suc i)) k)
+
+low : (x : ℕ) → x % 256 < 256
+low x = omega arith
+
+pub bytes-u16 : (x : ℕ) → Bytes (u16Bytes x)
+unfolding u16Bytes
+bytes-u16 x = bytes-cons _ _ (low x) (bytes-cons _ _ (low (x / 256)) bytes-none)
+
+pub bytes-u32 : (x : ℕ) → Bytes (u32Bytes x)
+unfolding u32Bytes
+bytes-u32 x = bytes-cons _ _ (low x) (bytes-cons _ _ (low (x / 256)) (bytes-cons _ _ (low (x / 65536)) (bytes-cons _ _ (low (x / 16777216)) bytes-none)))
+
+-- bytes written over bytes
+pub bytes-spliced : (l b : List ℕ) (i : ℕ) → i + length b ≤ length l → Bytes l → Bytes b → Bytes (splice l i b)
+unfolding Bytes
+bytes-spliced l b i fits h k j = ⊎-elim
+    (λ g. rw (splice-before l i b fits j g) (h j))
+    (λ g. ⊎-elim (λ f. inside g f) (λ f. rw (splice-after l i b fits j f) (h j)) (lt-or-ge j (i + length b)))
+    (lt-or-ge j i)
+  where
+    inside : i ≤ j → j < i + length b → getD (splice l i b) j 0 < 256
+    inside g f =
+        let e : j ≡ i + (j - i) = omega arith in
+        let s : getD (splice l i b) j 0 ≡ getD b (j - i) 0 = ap (λ (x : ℕ). getD (splice l i b) x 0) e ∙ splice-inside l i b fits (j - i) (omega arith) in
+        rw s (k (j - i))
 
 module _ (l : List ℕ) (bytes : Bytes l) where
   pub u16-small : (i : ℕ) → u16At l i < 65536

@@ -1,6 +1,6 @@
 //! A case: what is lent to one call. An answer: what the call gave back and left.
 
-use reference::calls::{receive_put, transmit_take, Ring, Words};
+use reference::calls::{receive_put, transmit_post, transmit_take, Ring, Words};
 use reference::grants::{grant, WORD_BYTES};
 use reference::ring::{posted, slots, PAGE_BYTES, RING_SLOTS};
 use reference::slots::{RECEIVE_WIDTH, TRANSMIT_WIDTH};
@@ -32,16 +32,19 @@ pub struct Answer {
 /// Counter, mark, ring page, grant table, window and frame, as the second program's calls take them.
 type Take = fn(&mut u32, &mut u32, &mut [u8], &[u8], &[u8], &mut [u8]) -> Words;
 type Put = fn(&mut u32, &mut u32, &mut [u8], &[u8], &mut [u8], &[u8]) -> Words;
+/// Count of replies read, gso and its two numbers; ring page, grant table, window, references and frame.
+type Post = fn((u32, u32, u16, u8), &mut [u8], &[u8], &mut [u8], &[u32], &[u8]) -> Words;
 
-/// The second program's two calls. The mutants have others.
+/// The second program's calls. The mutants have others.
 #[derive(Clone, Copy)]
 pub struct Second {
     pub take: Take,
     pub put: Put,
+    pub post: Post,
 }
 
 /// The second program as it is meant.
-pub const REFERENCE: Second = Second { take: transmit_take, put: receive_put };
+pub const REFERENCE: Second = Second { take: transmit_take, put: receive_put, post: transmit_post };
 
 impl Second {
     /// The answer to a case.
@@ -79,7 +82,8 @@ pub fn difference(expected: &Answer, found: &Answer) -> Option<String> {
     buffers.into_iter().find_map(|(name, expected, found)| buffer_difference(name, expected, found))
 }
 
-fn buffer_difference(name: &str, expected: &[u8], found: &[u8]) -> Option<String> {
+/// How a buffer differs from the one expected.
+pub fn buffer_difference(name: &str, expected: &[u8], found: &[u8]) -> Option<String> {
     if expected == found {
         return None;
     }

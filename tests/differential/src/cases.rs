@@ -6,7 +6,7 @@ use crate::library::Library;
 use crate::random::Random;
 use crate::{receive, transmit};
 
-const PLACEMENTS: [Placement; 3] = [Placement::End, Placement::Begin, Placement::Odd];
+pub const PLACEMENTS: [Placement; 3] = [Placement::End, Placement::Begin, Placement::Odd];
 
 /// Case `number` of a run with `seed`: three transmit cases to two receive cases.
 pub fn case(seed: u64, number: u64) -> Case {

@@ -17,11 +17,14 @@ pub enum Phase {
     Grammar,
     Case,
     Sequence,
+    Post,
+    List,
     Racing,
 }
 
 /// The phases' names, in their order.
-const PHASES: [&str; 4] = [" in grammar run ", " in case ", " in sequence ", " in race "];
+const PHASES: [&str; 6] =
+    [" in grammar run ", " in case ", " in sequence ", " in post ", " in list ", " in race "];
 
 static SEED: AtomicU64 = AtomicU64::new(0);
 static PHASE: AtomicUsize = AtomicUsize::new(0);

@@ -33,10 +33,10 @@ pub struct Guest {
 }
 
 impl Guest {
-    /// A window of so many pages, and perhaps part of another; a table with at least one reference of each kind.
-    pub fn new(random: &Random, pages: usize) -> Guest {
+    /// A window of so many pages, and perhaps part of another; a table without words.
+    fn without_words(random: &Random, pages: usize) -> Guest {
         let spare = random.pick(&[0, 0, 1, 4095, random.between(1, 4095)]);
-        let mut guest = Guest {
+        Guest {
             grants: Vec::new(),
             window: random.bytes(pages * PAGE + spare),
             writable: Vec::new(),
@@ -44,7 +44,12 @@ impl Guest {
             partial: Vec::new(),
             past_page: Vec::new(),
             unfit: Vec::new(),
-        };
+        }
+    }
+
+    /// A guest with a table of at least one reference of each kind.
+    pub fn new(random: &Random, pages: usize) -> Guest {
+        let mut guest = Guest::without_words(random, pages);
         let words = random.between(KINDS, 24);
         for gref in 0..words {
             let kind = if gref < KINDS { gref } else { random.below(KINDS) };
@@ -53,6 +58,26 @@ impl Guest {
         guest.add_spare_tail(random);
         guest.add_references_without_word(words as u32);
         guest
+    }
+
+    /// A guest with, in any order, a reference of each kind and two for each page that are fit for receive; and these
+    /// two, by page.
+    pub fn of_driver(random: &Random, pages: usize) -> (Guest, Vec<[u32; 2]>) {
+        let mut guest = Guest::without_words(random, pages);
+        let words = KINDS + 2 * pages;
+        let mut names = vec![[0; 2]; pages];
+        for (gref, number) in (0..).zip(random.shuffled(words)) {
+            let Some(name) = number.checked_sub(KINDS) else {
+                guest.add_word(random, number, gref, pages as u32);
+                continue;
+            };
+            let page = name / 2;
+            names[page][name % 2] = gref;
+            guest.grants.extend(whole_page_bytes((page as u32) << 2 | GRANTED | WRITABLE));
+        }
+        guest.add_spare_tail(random);
+        guest.add_references_without_word(words as u32);
+        (guest, names)
     }
 
     fn add_word(&mut self, random: &Random, kind: usize, gref: u32, pages: u32) {

@@ -10,7 +10,7 @@ use reference::ring::{slot_at, PAGE_BYTES};
 /// Marks of a halted queue.
 const MARKS: [u32; 5] = [1, 2, 0x100, 0x8000_0000, u32::MAX];
 /// Lengths that no ring page has.
-const WRONG_LENGTHS: [usize; 9] = [0, 1, 15, 64, 4095, 4095, 4097, 4097, 8192];
+pub const WRONG_LENGTHS: [usize; 9] = [0, 1, 15, 64, 4095, 4095, 4097, 4097, 8192];
 /// More slots than a ring holds.
 const OVERFLOWS: [u32; 7] = [257, 257, 258, 512, 0x7FFF_FFFF, 0x8000_0000, u32::MAX];
 
@@ -86,8 +86,8 @@ pub fn counter(random: &Random) -> u32 {
     around.wrapping_sub(random.below(24) as u32)
 }
 
-/// An rsp_event, mostly where the notify test turns for so many replies.
-pub fn event_near(random: &Random, consumed: u32, replies: usize) -> u32 {
-    let replies = replies as u32;
-    consumed.wrapping_add(random.pick(&[0, 1, replies, replies + 1, u32::MAX, random.u32()]))
+/// An rsp_event or req_event, mostly where the notify test turns for so many slots.
+pub fn event_near(random: &Random, old: u32, slots: usize) -> u32 {
+    let slots = slots as u32;
+    old.wrapping_add(random.pick(&[0, 1, slots, slots + 1, u32::MAX, random.u32()]))
 }

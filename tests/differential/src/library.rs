@@ -2,8 +2,10 @@
 
 use crate::case::{Answer, Case, State};
 use crate::guarded::{Guarded, Placed, Placement};
+use crate::post::{Post, PostAnswer};
 use reference::calls::{Ring, Words};
 use reference::report::RESERVED_CAUSE;
+use std::hint::black_box;
 
 extern "C" {
     fn tollmeander_transmit_take(
@@ -33,9 +35,27 @@ extern "C" {
         frame_len: usize,
         report: *mut Words,
     ) -> u32;
+
+    fn tollmeander_transmit_post(
+        replies_read: u32,
+        ring: *mut u8,
+        ring_len: usize,
+        grants: *const u8,
+        grants_len: usize,
+        window: *mut u8,
+        window_len: usize,
+        references: *const u32,
+        references_len: usize,
+        frame: *const u8,
+        frame_len: usize,
+        gso: u32,
+        gso_size: u16,
+        gso_type: u8,
+        report: *mut Words,
+    ) -> u32;
 }
 
-/// The parameters of both calls: addresses, and lengths in bytes.
+/// The parameters of take and put: addresses, and lengths in bytes.
 pub struct Parameters {
     pub consumed: *mut u32,
     pub halted: *mut u32,
@@ -46,7 +66,7 @@ pub struct Parameters {
     pub report: *mut Words,
 }
 
-/// Calls the library.
+/// Calls the library's take or put.
 ///
 /// # Safety
 ///
@@ -85,6 +105,7 @@ pub struct Library {
     grants: Guarded,
     window: Guarded,
     frame: Guarded,
+    references: Guarded,
     report: Guarded,
 }
 
@@ -99,8 +120,23 @@ struct Places {
     report: Placed,
 }
 
+/// Where a post's parameters are in guarded memory.
+struct PostPlaces {
+    page: Placed,
+    grants: Placed,
+    window: Placed,
+    references: Placed,
+    frame: Placed,
+    report: Placed,
+}
+
+/// Once a block of so many bytes was freed, the C library keeps as much freed memory for later and does not give it back
+/// to the system. That saves a fifth of the test's time.
+const KEPT_BYTES: usize = 1 << 24;
+
 impl Library {
     pub fn new() -> Library {
+        drop(black_box(vec![1_u8; KEPT_BYTES]));
         let words = || Guarded::new(1, 4);
         let bytes = || Guarded::new(PAGES, 1);
         Library {
@@ -110,6 +146,7 @@ impl Library {
             grants: bytes(),
             window: bytes(),
             frame: bytes(),
+            references: words(),
             report: words(),
         }
     }
@@ -147,13 +184,7 @@ impl Library {
     }
 
     fn read(&mut self, places: &Places, returned: u32) -> Result<Answer, String> {
-        let read = |memory: &mut Guarded, placed, name: &str| {
-            memory.contents(placed).ok_or_else(|| format!("bytes beside {name} were written"))
-        };
-        let word = |bytes: &[u8]| u32::from_ne_bytes(bytes.try_into().expect("four bytes"));
-        let report = read(&mut self.report, places.report, "the report")?;
-        let words: Words = std::array::from_fn(|k| word(&report[4 * k..4 * k + 4]));
-        refuse_reserved(&words)?;
+        let words = self.report(places.report)?;
         let after = State {
             consumed: word(&read(&mut self.consumed, places.consumed, "the counter")?),
             halted: word(&read(&mut self.halted, places.halted, "the mark")?),
@@ -164,6 +195,76 @@ impl Library {
         };
         Ok(Answer { returned, words, after })
     }
+
+    fn report(&mut self, placed: Placed) -> Result<Words, String> {
+        let report = read(&mut self.report, placed, "the report")?;
+        let words = std::array::from_fn(|k| word(&report[4 * k..4 * k + 4]));
+        refuse_reserved(&words)?;
+        Ok(words)
+    }
+
+    /// The library's answer to a post, or an error: it wrote beside a buffer, or reported the reserved cause.
+    pub fn post_answer(&mut self, post: &Post, placement: Placement) -> Result<PostAnswer, String> {
+        let places = self.place_post(post, placement);
+        // SAFETY: as for `answer`; words are placed at multiples of four.
+        let returned = unsafe {
+            tollmeander_transmit_post(
+                post.replies_read,
+                self.page.pointer(places.page),
+                post.page.len(),
+                self.grants.pointer(places.grants),
+                post.grants.len(),
+                self.window.pointer(places.window),
+                post.window.len(),
+                self.references.pointer(places.references).cast(),
+                post.references.len(),
+                self.frame.pointer(places.frame),
+                post.frame.len(),
+                post.gso.asked,
+                post.gso.size,
+                post.gso.kind,
+                self.report.pointer(places.report).cast(),
+            )
+        };
+        self.read_post(&places, post, returned)
+    }
+
+    fn place_post(&mut self, post: &Post, placement: Placement) -> PostPlaces {
+        let references: Vec<u8> = post.references.iter().flat_map(|gref| gref.to_ne_bytes()).collect();
+        PostPlaces {
+            page: self.page.place(&post.page, placement),
+            grants: self.grants.place(&post.grants, placement),
+            window: self.window.place(&post.window, placement),
+            references: self.references.place(&references, placement),
+            frame: self.frame.place(&post.frame, placement),
+            report: self.report.place(&STALE, placement),
+        }
+    }
+
+    fn read_post(&mut self, places: &PostPlaces, post: &Post, returned: u32) -> Result<PostAnswer, String> {
+        let words = self.report(places.report)?;
+        let references = read(&mut self.references, places.references, "the references")?;
+        let after = Post {
+            replies_read: post.replies_read,
+            page: read(&mut self.page, places.page, "the ring page")?,
+            grants: read(&mut self.grants, places.grants, "the grant table")?,
+            window: read(&mut self.window, places.window, "the window")?,
+            references: references.chunks(4).map(word).collect(),
+            frame: read(&mut self.frame, places.frame, "the frame")?,
+            gso: post.gso,
+        };
+        Ok(PostAnswer { returned, words, after })
+    }
+}
+
+/// A buffer's contents, or an error if bytes beside it were written.
+fn read(memory: &mut Guarded, placed: Placed, name: &str) -> Result<Vec<u8>, String> {
+    memory.contents(placed).ok_or_else(|| format!("bytes beside {name} were written"))
+}
+
+/// The number in four bytes, as the CPU has it.
+fn word(bytes: &[u8]) -> u32 {
+    u32::from_ne_bytes(bytes.try_into().expect("four bytes"))
 }
 
 impl Default for Library {

@@ -8,19 +8,21 @@ use differential::coverage::{Answers, Coverage};
 use differential::crash::{self, Phase};
 use differential::library::Library;
 use differential::options::Options;
-use differential::{cases, grammar, racing, sequence};
+use differential::post_coverage::PostCoverage;
+use differential::{cases, grammar, posts, racing, sequence};
 use reference::calls::Ring;
 use reference::report::{DONE, EMPTY, HALTED_ALREADY, MISSHAPEN, NAMES, SPOILED, WAITING};
 use std::process::ExitCode;
 use std::time::{Duration, Instant};
 
 const USAGE: &str =
-    "usage: differential run [--seed S] [--cases N | --seconds T | --case K | --sequence K]\n       \
+    "usage: differential run [--seed S] [--cases N | --seconds T | --case K | --sequence K | --post K]\n       \
                      differential racing [--seed S] [--seconds T]";
 
-/// Cases between two looks at the clock, and sequences to so many cases.
+/// Cases between two looks at the clock, and sequences and posts to so many cases.
 const ROUND_CASES: u64 = 1000;
 const ROUND_SEQUENCES: u64 = 20;
+const ROUND_POSTS: u64 = 200;
 
 /// The answers that sequences can give, each once in so many sequences at least.
 const SEQUENCE_ANSWERS: [u32; 6] = [DONE, HALTED_ALREADY, EMPTY, MISSHAPEN, WAITING, SPOILED];
@@ -47,6 +49,7 @@ struct Run {
     seed: u64,
     library: Library,
     coverage: Coverage,
+    posts: PostCoverage,
     /// Answers given in sequences.
     answers: Answers,
 }
@@ -54,15 +57,21 @@ struct Run {
 fn run(options: &Options) -> Result<(), String> {
     let seed = options.seed;
     crash::report_signals(seed);
-    let mut run = Run { seed, library: Library::new(), coverage: Coverage::new(), answers: [0; NAMES.len()] };
+    let (coverage, posts) = (Coverage::new(), PostCoverage::new());
+    let mut run = Run { seed, library: Library::new(), coverage, posts, answers: [0; NAMES.len()] };
     if let Some(number) = options.case {
         return run.case(number).map(|()| println!("case {number} agrees"));
     }
     if let Some(number) = options.sequence {
         return run.sequence(number).map(|()| println!("sequence {number} agrees"));
     }
+    if let Some(number) = options.post {
+        return run.post(number).map(|()| println!("post {number} agrees"));
+    }
     let checked = grammar::check_all(&mut run.library)?;
     println!("grammar: {checked} runs of slots agree");
+    let checked = posts::check_lists(&mut run.library, &REFERENCE)?;
+    println!("lists: {checked} posts with one fault in the list of references agree");
     run.rounds(options)
 }
 
@@ -77,6 +86,9 @@ impl Run {
             }
             for number in rounds * ROUND_SEQUENCES..(rounds + 1) * ROUND_SEQUENCES {
                 self.sequence(number)?;
+            }
+            for number in rounds * ROUND_POSTS..(rounds + 1) * ROUND_POSTS {
+                self.post(number)?;
             }
             rounds += 1;
         }
@@ -98,12 +110,22 @@ impl Run {
             .map_err(|difference| format!("seed {} sequence {number}: {difference}", self.seed))
     }
 
+    fn post(&mut self, number: u64) -> Result<(), String> {
+        crash::note(Phase::Post, number);
+        let facts = posts::check(&mut self.library, &REFERENCE, self.seed, number)
+            .map_err(|difference| format!("seed {} post {number}: {difference}", self.seed))?;
+        self.posts.count(&facts);
+        Ok(())
+    }
+
     fn report(&self, rounds: u64) -> Result<(), String> {
-        let (cases, sequences) = (rounds * ROUND_CASES, rounds * ROUND_SEQUENCES);
-        print!("{}", self.coverage);
+        let [cases, sequences, posts] =
+            [ROUND_CASES, ROUND_SEQUENCES, ROUND_POSTS].map(|number| rounds * number);
+        print!("{}{}", self.coverage, self.posts);
         println!("answers in sequences, by number: {:?}", self.answers);
-        println!("differential: seed {}, {cases} cases and {sequences} sequences agree", self.seed);
-        let mut shortfalls = self.coverage.shortfalls();
+        let seed = self.seed;
+        println!("differential: seed {seed}, {cases} cases, {sequences} sequences and {posts} posts agree");
+        let mut shortfalls = [self.coverage.shortfalls(), self.posts.shortfalls()].concat();
         for answer in SEQUENCE_ANSWERS {
             let count = self.answers[answer as usize];
             if count < sequences / SEQUENCES_PER_ANSWER {

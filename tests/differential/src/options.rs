@@ -11,11 +11,14 @@ pub struct Options {
     pub case: Option<u64>,
     /// Only this sequence.
     pub sequence: Option<u64>,
+    /// Only this post.
+    pub post: Option<u64>,
 }
 
 impl Options {
     pub fn parse(arguments: &[String]) -> Result<Options, String> {
-        let mut options = Options { seed: 1, cases: 200_000, time: None, case: None, sequence: None };
+        let (case, sequence, post) = (None, None, None);
+        let mut options = Options { seed: 1, cases: 200_000, time: None, case, sequence, post };
         for pair in arguments.chunks(2) {
             let [name, value] = pair else { return Err(format!("{} wants a number", pair[0])) };
             let number = value.parse().map_err(|_| format!("{name}: {value} is not a number"))?;
@@ -25,6 +28,7 @@ impl Options {
                 "--seconds" => options.time = Some(Duration::from_secs(number)),
                 "--case" => options.case = Some(number),
                 "--sequence" => options.sequence = Some(number),
+                "--post" => options.post = Some(number),
                 _ => return Err(format!("{name}: no such option")),
             }
         }

@@ -44,6 +44,15 @@ impl Random {
         from[self.below(from.len())]
     }
 
+    /// The numbers below `count`, in any order.
+    pub fn shuffled(&self, count: usize) -> Vec<usize> {
+        let mut numbers: Vec<usize> = (0..count).collect();
+        for last in (1..count).rev() {
+            numbers.swap(last, self.below(last + 1));
+        }
+        numbers
+    }
+
     pub fn bytes(&self, count: usize) -> Vec<u8> {
         let mut bytes = vec![0; count];
         for chunk in bytes.chunks_mut(8) {

@@ -146,8 +146,8 @@ impl Sequence<'_> {
             None => Outcome::refused(queue, HALTED_ALREADY),
         };
         let mut after = self.state.clone();
-        apply(&outcome, Buffer::Page, &mut after.page);
-        apply(&outcome, Buffer::Frame, &mut after.frame);
+        apply(&outcome.changes, Buffer::Page, &mut after.page);
+        apply(&outcome.changes, Buffer::Frame, &mut after.frame);
         after.consumed = outcome.queue.consumed as u32;
         after.halted = outcome.queue.halted;
         Answer { returned: outcome.report.answer, words: outcome.report.words(), after }

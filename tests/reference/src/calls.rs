@@ -1,6 +1,7 @@
-//! The two calls with the parameters of the C interface: numbers and buffers that are changed in place.
+//! The calls with the parameters of the C interface: numbers and buffers that are changed in place.
 
-use super::report::{Buffer, Lent, Outcome, Queue};
+use super::post::{self, Gso, Order};
+use super::report::{Buffer, Change, Lent, Outcome, Queue};
 use super::{receive, transmit};
 
 /// A queue's two rings, each with its own call.
@@ -24,8 +25,8 @@ pub fn transmit_take(
 ) -> Words {
     let lent = Lent { page, grants, window, frame };
     let outcome = transmit::take(queue(*consumed, *halted), &lent);
-    apply(&outcome, Buffer::Page, page);
-    apply(&outcome, Buffer::Frame, frame);
+    apply(&outcome.changes, Buffer::Page, page);
+    apply(&outcome.changes, Buffer::Frame, frame);
     store(&outcome, consumed, halted)
 }
 
@@ -40,14 +41,33 @@ pub fn receive_put(
 ) -> Words {
     let lent = Lent { page, grants, window, frame };
     let outcome = receive::put(queue(*consumed, *halted), &lent);
-    apply(&outcome, Buffer::Page, page);
-    apply(&outcome, Buffer::Window, window);
+    apply(&outcome.changes, Buffer::Page, page);
+    apply(&outcome.changes, Buffer::Window, window);
     store(&outcome, consumed, halted)
 }
 
-/// Makes the outcome's changes to one of the buffers.
-pub fn apply(outcome: &Outcome, buffer: Buffer, bytes: &mut [u8]) {
-    for change in outcome.changes.iter().filter(|change| change.buffer == buffer) {
+/// tollmeander_transmit_post, done by the second program. The numbers are the count of replies read, whether gso is
+/// asked for, and its size and type.
+pub fn transmit_post(
+    numbers: (u32, u32, u16, u8),
+    page: &mut [u8],
+    grants: &[u8],
+    window: &mut [u8],
+    references: &[u32],
+    frame: &[u8],
+) -> Words {
+    let (replies_read, asked, size, kind) = numbers;
+    let gso = (asked != 0).then(|| Gso { size: size.into(), kind: kind.into() });
+    let order = Order { replies_read: replies_read.into(), references, gso };
+    let posted = post::post(&order, &Lent { page, grants, window, frame });
+    apply(&posted.changes, Buffer::Page, page);
+    apply(&posted.changes, Buffer::Window, window);
+    posted.report.words()
+}
+
+/// Makes the changes to one of the buffers.
+pub fn apply(changes: &[Change], buffer: Buffer, bytes: &mut [u8]) {
+    for change in changes.iter().filter(|change| change.buffer == buffer) {
         bytes[change.at..change.at + change.bytes.len()].copy_from_slice(&change.bytes);
     }
 }

@@ -11,6 +11,9 @@ pub const SPOILED: u32 = 7;
 pub const NO_ROOM: u32 = 8;
 pub const BAD_LENGTH: u32 = 9;
 pub const NO_BUFFERS: u32 = 10;
+pub const NO_SLOTS: u32 = 11;
+pub const BAD_PAGES: u32 = 12;
+pub const BAD_GSO: u32 = 13;
 
 /// The cause for a total above 65,535, which a size of 16 bits cannot be. No call reports it.
 pub const RESERVED_CAUSE: u32 = 2;
@@ -20,7 +23,7 @@ pub const SMALLEST_FRAME: u64 = 14;
 pub const LARGEST_FRAME: u64 = 65_535;
 
 /// The answers' names, by number.
-pub const NAMES: [&str; 11] = [
+pub const NAMES: [&str; 14] = [
     "done",
     "bad-page",
     "halted-already",
@@ -32,6 +35,9 @@ pub const NAMES: [&str; 11] = [
     "no-room",
     "bad-frame-length",
     "no-buffers",
+    "no-slots",
+    "bad-pages",
+    "bad-gso",
 ];
 
 /// What a call reports. A field that the answer does not name is 0.

@@ -6,10 +6,10 @@ use super::words::{minus, number, plus};
 pub const PAGE_BYTES: usize = 4096;
 pub const RING_SLOTS: u64 = 256;
 
-const REQ_PROD: usize = 0;
-const REQ_EVENT: usize = 4;
-const RSP_PROD: usize = 8;
-const RSP_EVENT: usize = 12;
+pub const REQ_PROD: usize = 0;
+pub const REQ_EVENT: usize = 4;
+pub const RSP_PROD: usize = 8;
+pub const RSP_EVENT: usize = 12;
 const FIRST_SLOT: usize = 64;
 
 /// Where slot `n` begins on the page.
@@ -17,9 +17,14 @@ pub fn slot_at(width: usize, n: u64) -> usize {
     FIRST_SLOT + (n % RING_SLOTS) as usize * width
 }
 
+/// The counter of slots posted as the page holds it.
+pub fn req_prod(page: &[u8]) -> u64 {
+    number(page, REQ_PROD, 4)
+}
+
 /// The number of slots posted and not yet consumed.
 pub fn posted(page: &[u8], consumed: u64) -> u64 {
-    minus(number(page, REQ_PROD, 4), consumed)
+    minus(req_prod(page), consumed)
 }
 
 /// The counter of replies as the page holds it.
@@ -36,15 +41,15 @@ pub fn slots<const WIDTH: usize>(page: &[u8], from: u64, count: u64) -> Vec<[u8;
     (0..count).map(slot).collect()
 }
 
-/// Whether the guest wants an event for the replies from `old` up to `new`.
-fn notify(page: &[u8], old: u64, new: u64) -> bool {
-    let rsp_event = number(page, RSP_EVENT, 4);
-    minus(new, rsp_event) < minus(new, old)
+/// Whether the event word at `at` asks to be notified of a counter's way from `old` up to `new`.
+pub fn notify(page: &[u8], at: usize, old: u64, new: u64) -> bool {
+    let event = number(page, at, 4);
+    minus(new, event) < minus(new, old)
 }
 
 /// req_event = req_prod + 1: an event is wanted for the next slot posted.
 pub fn event_for_next(page: &[u8]) -> Change {
-    header_word(REQ_EVENT, plus(number(page, REQ_PROD, 4), 1))
+    header_word(REQ_EVENT, plus(req_prod(page), 1))
 }
 
 /// The outcome that consumes a slot for each reply, with slots and notify put into the report.
@@ -55,16 +60,18 @@ pub fn consume(queue: Queue, page: &[u8], width: usize, replies: Vec<Vec<u8>>, r
     let reply = |(n, bytes)| on_page(slot_at(width, plus(old, n)), bytes);
     let changes = (0..).zip(replies).map(reply).chain([header_word(RSP_PROD, new)]);
     Outcome {
-        report: Report { slots: slots as u32, notify: notify(page, old, new), ..report },
+        report: Report { slots: slots as u32, notify: notify(page, RSP_EVENT, old, new), ..report },
         queue: Queue { consumed: new, ..queue },
         changes: changes.collect(),
     }
 }
 
-fn header_word(at: usize, n: u64) -> Change {
+/// A word of the page's header.
+pub fn header_word(at: usize, n: u64) -> Change {
     on_page(at, n.to_le_bytes()[..4].to_vec())
 }
 
-fn on_page(at: usize, bytes: Vec<u8>) -> Change {
+/// Bytes for a place on the page.
+pub fn on_page(at: usize, bytes: Vec<u8>) -> Change {
     Change { buffer: Buffer::Page, at, bytes }
 }

@@ -17,7 +17,7 @@ pub const NULL: i16 = 1;
 /// Receive reply flag: another piece of the frame follows.
 pub const MORE_DATA: u16 = 4;
 
-#[derive(Clone, Copy, Debug)]
+#[derive(Clone, Copy, Debug, PartialEq, Eq)]
 pub struct Data {
     pub gref: u64,
     pub offset: u64,
@@ -44,7 +44,19 @@ pub fn data(slot: &Slot) -> Data {
     }
 }
 
-#[derive(Clone, Copy, Debug)]
+/// The bytes of a data slot. Bits of the flags that have no name are 0.
+pub fn data_bytes(data: &Data) -> Slot {
+    let bits = [data.checksum_blank, data.data_validated, data.more_data, data.extra_follows];
+    let flags: u64 = [1, 2, 4, 8].into_iter().zip(bits).map(|(value, bit)| value * u64::from(bit)).sum();
+    let mut slot = [0; TRANSMIT_WIDTH];
+    slot[..4].copy_from_slice(&data.gref.to_le_bytes()[..4]);
+    for (at, field) in (4..).step_by(2).zip([data.offset, flags, data.id.into(), data.size]) {
+        slot[at..at + 2].copy_from_slice(&field.to_le_bytes()[..2]);
+    }
+    slot
+}
+
+#[derive(Clone, Copy, Debug, PartialEq, Eq)]
 pub struct Extra {
     pub kind: u64,
     pub another_follows: bool,
@@ -60,6 +72,13 @@ pub fn extra(slot: &Slot) -> Extra {
         gso_size: number(slot, 2, 2),
         gso_type: number(slot, 4, 1),
     }
+}
+
+/// The bytes of an extra. Its pad, its features and the bytes that no field has are 0.
+pub fn extra_bytes(extra: &Extra) -> Slot {
+    let [low, high, ..] = extra.gso_size.to_le_bytes();
+    let flags = u8::from(extra.another_follows);
+    [extra.kind as u8, flags, low, high, extra.gso_type as u8, 0, 0, 0, 0, 0, 0, 0]
 }
 
 /// The reply to a transmit slot. The slot's other 8 bytes stay.

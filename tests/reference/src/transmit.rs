@@ -112,11 +112,16 @@ fn causes(packet: &Packet, lent: &Lent) -> Vec<Cause> {
         }
     }
     if let Some(last) = packet.extras.last() {
-        if last.gso_size == 0 || !(1..=2).contains(&last.gso_type) {
+        if !gso_passes(last.gso_size, last.gso_type) {
             found.push((6, packet.extras.len()));
         }
     }
     found
+}
+
+/// Whether cause 6 lets a gso size and type pass.
+pub fn gso_passes(size: u64, kind: u64) -> bool {
+    size != 0 && (1..=2).contains(&kind)
 }
 
 fn done_report(packet: &Packet) -> Report {

@@ -2,7 +2,7 @@
 use borrow.Author.Needs.{needs}
 use lib.ListN.{length}
 use native.Mathlib.Omega.{arith}
-use Rattle.receive.proofs.Calls.{needed-few, needed-cover, delivered}
+use Rattle.receive.proofs.Calls.{needed-few, needed-cover, needed-reach, delivered}
 use Rattle.receive.proofs.deliver.Statement.{statement}
 use Rattle.receive.proofs.deliver.Tie as tie
 
@@ -11,7 +11,7 @@ scatter-requires c κs =
     let a = c .before .before .before .before .args in
     let p = c .before .before .before .before .pre in
     let n = length (a .frame .now) in
-    (omega arith, omega (arith, needed-few n (p .2)), omega (arith, needed-cover n), p .4)
+    (omega arith, omega (arith, needed-few n (p .2)), omega (arith, needed-cover n), omega (arith, needed-reach n), p .4)
 
 reply-pieces-requires : tie.Need-reply-pieces-requires
 reply-pieces-requires c κs =

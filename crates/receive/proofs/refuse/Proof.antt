@@ -12,8 +12,8 @@ ahead-requires c κs = search needs
 reply-errors-requires : tie.Need-reply-errors-requires
 reply-errors-requires c κs = search needs
 
-finish-requires : tie.Need-finish-requires
-finish-requires c κs = search needs
+publish-requires : tie.Need-publish-requires
+publish-requires c κs = search needs
 
 go-on-requires : tie.Need-go-on-requires
 go-on-requires c κs = search needs
@@ -27,8 +27,8 @@ same-length c = search needs
 returns : tie.Need-returns
 returns c =
     let a = c .before .before .before .before .before .before .before .before .before .before .before .before .args in
-    refused (a .old) (a .count) (a .ring .now) (omega arith) (omega arith) (c .before .before .before .before .before .before .before .before .before .before .ahead .result) (c .before .before .before .before .before .before .before .before .before .before .ahead .ensures) (a .cause) (a .place) _ _ (c .before .before .before .before .finish .result) (c .told .result)
-    (c .before .before .before .before .before .before .before .before .reply-errors .ensures) (c .before .before .before .before .finish .ensures) (c .told .ensures .0) (c .told .ensures .1 ∙ c .before .go-on .ensures)
+    refused (a .old) (a .count) (a .ring .now) (omega arith) (omega arith) (c .before .before .before .before .before .before .before .before .before .before .ahead .result) (c .before .before .before .before .before .before .before .before .before .before .ahead .ensures) (a .cause) (a .place) _ _ (c .before .before .before .before .publish .result) (c .told .result)
+    (c .before .before .before .before .before .before .before .before .reply-errors .ensures) (c .before .before .before .before .publish .ensures) (c .told .ensures .0) (c .told .ensures .1 ∙ c .before .go-on .ensures)
 
 pub refuse-spec : {M : Type 1} → statement M
 refuse-spec =
@@ -36,7 +36,7 @@ refuse-spec =
     (tie.spec
     ahead-requires
     reply-errors-requires
-    finish-requires
+    publish-requires
     go-on-requires
     told-requires
     same-length

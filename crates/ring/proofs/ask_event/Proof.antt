@@ -6,8 +6,8 @@ use Rattle.ring.specs.Ring.{wadd, asking, withReqEvent}
 use Rattle.ring.proofs.ask_event.Statement.{statement}
 use Rattle.ring.proofs.ask_event.Tie as tie
 
-u32-at-requires : tie.Need-u32-at-requires
-u32-at-requires c κs = search needs
+requests-requires : tie.Need-requests-requires
+requests-requires c κs = search needs
 
 wrapping-add-u32-requires : tie.Need-wrapping-add-u32-requires
 wrapping-add-u32-requires c κs = search needs
@@ -23,9 +23,9 @@ unfolding asking withReqEvent wadd
 returns c =
     let page = c .before .before .before .before .before .before .before .before .args .page .now in
     c .before .before .put-u32 .ensures
-    ∙ ap (λ x. splice page 4 (u32Bytes x)) (c .before .before .before .before .wrapping-add-u32 .ensures ∙ rw (c .before .before .before .before .before .u32-at .ensures))
+    ∙ ap (λ x. splice page 4 (u32Bytes x)) (c .before .before .before .before .wrapping-add-u32 .ensures ∙ rw (c .before .before .before .before .before .requests .ensures))
 
 pub ask-event-spec : {M : Type 1} → statement M
 ask-event-spec =
     tie.close
-    (tie.spec u32-at-requires wrapping-add-u32-requires put-u32-requires same-length returns)
+    (tie.spec requests-requires wrapping-add-u32-requires put-u32-requires same-length returns)

@@ -5,8 +5,8 @@ use Rattle.ring.proofs.Counters.{subtracted}
 use Rattle.ring.proofs.posted.Statement.{statement}
 use Rattle.ring.proofs.posted.Tie as tie
 
-u32-at-requires : tie.Need-u32-at-requires
-u32-at-requires c κs = search needs
+requests-requires : tie.Need-requests-requires
+requests-requires c κs = search needs
 
 wrapping-sub-u32-requires : tie.Need-wrapping-sub-u32-requires
 wrapping-sub-u32-requires c κs = search needs
@@ -14,8 +14,8 @@ wrapping-sub-u32-requires c κs = search needs
 returns : tie.Need-returns
 unfolding posted
 returns c =
-    let e = c .before .u32-at .ensures in
-    rw e at (subtracted (c .wrapping-sub-u32 .result) (c .before .u32-at .result) (c .before .before .before .args .consumed) (search needs) (c .wrapping-sub-u32 .ensures))
+    let e = c .before .requests .ensures in
+    rw e at (subtracted (c .wrapping-sub-u32 .result) (c .before .requests .result) (c .before .before .before .args .consumed) (search needs) (c .wrapping-sub-u32 .ensures))
 
 pub posted-spec : {M : Type 1} → statement M
-posted-spec = tie.close (tie.spec u32-at-requires wrapping-sub-u32-requires returns)
+posted-spec = tie.close (tie.spec requests-requires wrapping-sub-u32-requires returns)
