@@ -14,7 +14,7 @@ BUILD ?= build
 CC := gcc
 C_WARNINGS := -Wall -Wextra -Wpedantic -Wshadow -Wconversion -Werror
 C_FLAGS := -std=c11 -O2 -g -D_POSIX_C_SOURCE=200809L $(C_WARNINGS) -MMD -MP -pthread
-C_INCLUDES := -Iinclude -Ihost -Idemo -Itests -Itests/host
+C_INCLUDES := -Iinclude -Ihost -Iguest -Itests
 # The thread sanitizer does not know fences; freedom from races does not rest on them.
 TSAN_FLAGS := -fsanitize=thread -O1 -Wno-tsan
 
@@ -25,11 +25,10 @@ LIB := $(BUILD)/libtollmeander.a
 PC := $(BUILD)/tollmeander.pc
 DEMO := $(BUILD)/tollmeander-demo
 
-# The simulated guest and the event channel, which demo and tests share.
-GUEST_PARTS := host/back_ring host/front_ring demo/slot_ring demo/guest_pages demo/traffic \
-               demo/sender demo/poster demo/receiver demo/device
-DEMO_PARTS := $(GUEST_PARTS) demo/guest demo/vif demo/options demo/outcome demo/progress \
-              demo/table demo/main
+# Both ends of a ring and the simulated guest, which demo and tests share.
+GUEST_PARTS := host/back_ring host/front_ring \
+               $(addprefix guest/,slot_ring guest_pages traffic sender poster receiver device)
+DEMO_PARTS := $(GUEST_PARTS) $(addprefix demo/,guest vif options outcome progress table main)
 THREAD_PARTS := $(GUEST_PARTS) tests/host/channel
 
 THREAD_TESTS := transmit_run receive_run post_run hostile_transmit hostile_receive

@@ -15,9 +15,9 @@
 #include <string.h>
 
 #include "channel.h"
-#include "slot_ring.h"
 #include "run_options.h"
 #include "slot_bits.h"
+#include "slot_ring.h"
 #include "thread.h"
 #include "versions.h"
 

@@ -16,9 +16,9 @@
 
 #include "channel.h"
 #include "clock.h"
-#include "slot_ring.h"
 #include "run_options.h"
 #include "slot_bits.h"
+#include "slot_ring.h"
 #include "thread.h"
 #include "versions.h"
 

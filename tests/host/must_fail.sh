@@ -4,7 +4,7 @@
 set -eu
 lib=$1
 work=$2
-flags='-std=c11 -O1 -w -D_POSIX_C_SOURCE=200809L -Iinclude -Ihost -Idemo -Itests'
+flags='-std=c11 -O1 -w -D_POSIX_C_SOURCE=200809L -Iinclude -Ihost -Iguest -Itests'
 survivors=0
 count=0
 

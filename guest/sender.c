@@ -79,7 +79,7 @@ static void write_extra(struct sender *sender, bool last)
     slot_ring_write(&sender->ring, slot);
 }
 
-/* Writes the next slot of the packet; the guest of the story crashes before its last. */
+/* Writes the next slot of the packet; a guest that crashes does so before its last. */
 static void write_slot(struct sender *sender)
 {
     const struct packet *packet = &sender->packet;

@@ -8,8 +8,8 @@
 #include <stdbool.h>
 #include <stdint.h>
 
-#include "slot_ring.h"
 #include "guest_pages.h"
+#include "slot_ring.h"
 #include "traffic.h"
 
 /* The reply that a slot is to get. */

@@ -5,8 +5,8 @@
 #include <stdbool.h>
 #include <stdint.h>
 
-#include "slot_ring.h"
 #include "guest_pages.h"
+#include "slot_ring.h"
 #include "traffic.h"
 
 struct receiver {
