@@ -4,8 +4,7 @@
 
 enum {
     LONGEST_BURST = 48,     /* of slots */
-    MOST_PACKETS = 24,      /* of a burst of packets */
-    WRITABLE = TOLLMEANDER_GRANTED | TOLLMEANDER_GRANT_WRITABLE
+    MOST_PACKETS = 24       /* of a burst of packets */
 };
 
 void guest_open(struct guest *guest, const struct traffic *traffic, struct events *events,
@@ -13,7 +12,7 @@ void guest_open(struct guest *guest, const struct traffic *traffic, struct event
 {
     memset(guest, 0, sizeof *guest);
     guest->posts = traffic->plain;
-    guest_pages_open(&guest->pages, guest->posts ? WRITABLE : TOLLMEANDER_GRANTED);
+    guest_pages_open(&guest->pages, guest->posts);
     if (guest->posts)
         poster_open(&guest->poster, &guest->transmit_page, &guest->pages, traffic, counter);
     else

@@ -4,7 +4,7 @@
 
 #include "grant_table.h"
 
-enum { FIRST_GREF = 8 };
+enum { FIRST_GREF = 8, WRITABLE = TOLLMEANDER_GRANTED | TOLLMEANDER_GRANT_WRITABLE };
 
 static uint32_t transmit_page_number(uint32_t n)
 {
@@ -41,14 +41,13 @@ uint8_t *guest_receive_page(struct guest_pages *pages, uint32_t n)
     return pages->window + TOLLMEANDER_PAGE_SIZE * receive_page_number(n);
 }
 
-void guest_pages_open(struct guest_pages *pages, uint32_t transmit_access)
+void guest_pages_open(struct guest_pages *pages, bool transmit_is_writable)
 {
     memset(pages, 0, sizeof *pages);
     for (uint32_t n = 0; n < TOLLMEANDER_RING_SLOTS; n++) {
         grant_table_set(pages->grants, guest_transmit_gref(n), transmit_page_number(n),
-                        transmit_access);
-        grant_table_set(pages->grants, guest_receive_gref(n), receive_page_number(n),
-                        TOLLMEANDER_GRANTED | TOLLMEANDER_GRANT_WRITABLE);
+                        transmit_is_writable ? WRITABLE : TOLLMEANDER_GRANTED);
+        grant_table_set(pages->grants, guest_receive_gref(n), receive_page_number(n), WRITABLE);
     }
 }
 

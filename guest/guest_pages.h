@@ -2,9 +2,11 @@
 #ifndef GUEST_PAGES_H
 #define GUEST_PAGES_H
 
+#include <stdbool.h>
 #include <stdint.h>
 
-#include "back_ring.h"
+#include "guest_memory.h"
+#include "tollmeander.h"
 
 enum {
     GUEST_PAGES = 2 * TOLLMEANDER_RING_SLOTS,
@@ -16,11 +18,8 @@ struct guest_pages {
     uint8_t window[GUEST_PAGES * TOLLMEANDER_PAGE_SIZE];
 };
 
-/*
- * Grants the transmit pages with an access, which is TOLLMEANDER_GRANTED, with
- * TOLLMEANDER_GRANT_WRITABLE if they may be written, and the receive pages to be written.
- */
-void guest_pages_open(struct guest_pages *pages, uint32_t transmit_access);
+/* Grants the transmit pages, to be written too or only read, and the receive pages to be written. */
+void guest_pages_open(struct guest_pages *pages, bool transmit_is_writable);
 
 /* The memory as the host lends it to the library. */
 struct guest_memory guest_pages_memory(struct guest_pages *pages);

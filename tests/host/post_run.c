@@ -21,8 +21,7 @@
 enum {
     FIRST_COUNTER = -1000,
     SHORT_BURST = 4,
-    LONG_BURST = 300,       /* more than the ring takes */
-    WRITABLE = TOLLMEANDER_GRANTED | TOLLMEANDER_GRANT_WRITABLE
+    LONG_BURST = 300        /* more than the ring takes */
 };
 
 struct driver {
@@ -153,7 +152,7 @@ int main(int argc, char **argv)
     pthread_t driver_thread;
 
     frame_pool_fill(&pool, options.seed);
-    guest_pages_open(&pages, WRITABLE);
+    guest_pages_open(&pages, true);
     channel_open(&to_driver);
     channel_open(&to_host);
     driver.rng = rng_of(options.seed, UINT64_MAX);

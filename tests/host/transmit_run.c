@@ -140,7 +140,7 @@ int main(int argc, char **argv)
     pthread_t guest_thread;
 
     frame_pool_fill(&pool, options.seed);
-    guest_pages_open(&pages, TOLLMEANDER_GRANTED);
+    guest_pages_open(&pages, false);
     channel_open(&to_guest);
     channel_open(&to_host);
     guest.rng = rng_of(options.seed, UINT64_MAX);
