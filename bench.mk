@@ -4,25 +4,18 @@
 #   bench-floor   the same with a second copy of plain C as the library: how far ratios can be trusted
 #   bench-check   the library's differential test over plain C
 
-TOLLMEANDER_LIB ?= target/staticlib/libtollmeander.a
-BUILD ?= build
-# V=1 shows the commands.
-SAY ?= $(if $(V),,@echo "  $@";)
+include settings.mk
 
-BENCH_WARNINGS := -Wall -Wextra -Wpedantic -Wshadow -Wconversion -Werror
-BENCH_INCLUDES := -Iinclude -Ihost
-BENCH_FLAGS := -std=c11 -O2 $(BENCH_WARNINGS)
 # The library is compiled for any x86-64, and so is plain C. Nothing is optimised across the two.
-BENCH_PLAIN_FLAGS := -std=c11 -O3 -march=x86-64 -mtune=generic
-BENCH_PLAIN := gcc $(shell gcc -dumpfullversion) $(BENCH_PLAIN_FLAGS)
+BENCH_PLAIN_FLAGS := -O3 -march=x86-64 -mtune=generic
+BENCH_PLAIN := $(CC) $(shell $(CC) -dumpfullversion) $(C_STANDARD) $(BENCH_PLAIN_FLAGS)
 
 BENCH_PARTS := scene measure agree rows table bench
 BENCH_OBJECTS := $(addprefix $(BUILD)/bench/,plain.o $(BENCH_PARTS:%=%.o))
-BENCH_HEADERS := $(wildcard bench/*.h) host/grant_table.h include/tollmeander.h
 # Plain C under the library's names.
 BENCH_YARDSTICK := $(BUILD)/bench/yardstick/libtollmeander.a
 
-.PHONY: bench bench-floor bench-check bench-yardstick FORCE
+.PHONY: bench bench-floor bench-check bench-yardstick
 
 bench: $(BUILD)/bench/bench
 	@bench/run.sh $< $(BENCH_OPTIONS)
@@ -35,13 +28,13 @@ bench-check:
 
 bench-yardstick: $(BENCH_YARDSTICK)
 
-$(BUILD)/bench/plain.o: bench/plain.c $(BENCH_HEADERS)
+$(BUILD)/bench/plain.o: bench/plain.c
 	@mkdir -p $(@D)
-	$(SAY)gcc $(BENCH_PLAIN_FLAGS) $(BENCH_WARNINGS) $(BENCH_INCLUDES) -c $< -o $@
+	$(SAY)$(CC) $(C_FLAGS) $(BENCH_PLAIN_FLAGS) -c $< -o $@
 
-$(BENCH_PARTS:%=$(BUILD)/bench/%.o): $(BUILD)/bench/%.o: bench/%.c $(BENCH_HEADERS)
+$(BENCH_PARTS:%=$(BUILD)/bench/%.o): $(BUILD)/bench/%.o: bench/%.c
 	@mkdir -p $(@D)
-	$(SAY)gcc $(BENCH_FLAGS) $(BENCH_INCLUDES) -DBENCH_PLAIN='"$(BENCH_PLAIN)"' -c $< -o $@
+	$(SAY)$(CC) $(C_FLAGS) -O2 -DBENCH_PLAIN='"$(BENCH_PLAIN)"' -c $< -o $@
 
 $(BENCH_YARDSTICK): $(BUILD)/bench/plain.o
 	@mkdir -p $(@D)
@@ -52,7 +45,9 @@ $(BENCH_YARDSTICK): $(BUILD)/bench/plain.o
 
 # Linked each time, as TOLLMEANDER_LIB may be another. memcpy is found at the start, not at the first call.
 $(BUILD)/bench/bench: $(BENCH_OBJECTS) $(TOLLMEANDER_LIB) FORCE
-	$(SAY)gcc -Wl,-z,now $(filter-out FORCE,$^) -o $@
+	$(SAY)$(CC) -Wl,-z,now $(filter-out FORCE,$^) -o $@
 
 $(BUILD)/bench/bench-floor: $(BENCH_OBJECTS) $(BENCH_YARDSTICK)
-	$(SAY)gcc -Wl,-z,now $^ -o $@
+	$(SAY)$(CC) -Wl,-z,now $^ -o $@
+
+-include $(wildcard $(BUILD)/bench/*.d)

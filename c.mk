@@ -6,20 +6,14 @@
 #   test-c              tests/c/run.sh
 #   test-programs       builds what the tests run
 
-TOLLMEANDER_LIB ?= target/staticlib/libtollmeander.a
+include settings.mk
+
 TOLLMEANDER_VERSION ?= 0.3.0
 PREFIX ?= /usr/local
-BUILD ?= build
 
-CC := gcc
-C_WARNINGS := -Wall -Wextra -Wpedantic -Wshadow -Wconversion -Werror
-C_FLAGS := -std=c11 -O2 -g -D_POSIX_C_SOURCE=200809L $(C_WARNINGS) -MMD -MP -pthread
-C_INCLUDES := -Iinclude -Ihost -Iguest -Itests
+OBJECT_FLAGS := $(C_FLAGS) -O2 -g -D_POSIX_C_SOURCE=200809L -pthread
 # The thread sanitizer does not know fences; freedom from races does not rest on them.
 TSAN_FLAGS := -fsanitize=thread -O1 -Wno-tsan
-
-# V=1 shows the commands.
-SAY = $(if $(V),,@echo "  $@";)
 
 LIB := $(BUILD)/libtollmeander.a
 PC := $(BUILD)/tollmeander.pc
@@ -36,7 +30,7 @@ RING_TESTS := edges interleave front_edges front_interleave
 TEST_PROGRAMS := $(addprefix $(BUILD)/tests/,layout $(RING_TESTS) $(THREAD_TESTS)) \
                  $(addprefix $(BUILD)/tsan/,$(THREAD_TESTS))
 
-.PHONY: lib install demo test-c test-programs FORCE
+.PHONY: lib install demo test-c test-programs
 
 lib: $(LIB) $(PC)
 
@@ -65,11 +59,11 @@ test-programs: $(TEST_PROGRAMS) $(DEMO)
 
 $(BUILD)/obj/%.o: %.c
 	@mkdir -p $(@D)
-	$(SAY)$(CC) $(C_FLAGS) $(C_INCLUDES) -c $< -o $@
+	$(SAY)$(CC) $(OBJECT_FLAGS) -c $< -o $@
 
 $(BUILD)/obj-tsan/%.o: %.c
 	@mkdir -p $(@D)
-	$(SAY)$(CC) $(C_FLAGS) $(TSAN_FLAGS) $(C_INCLUDES) -c $< -o $@
+	$(SAY)$(CC) $(OBJECT_FLAGS) $(TSAN_FLAGS) -c $< -o $@
 
 $(DEMO): $(DEMO_PARTS:%=$(BUILD)/obj/%.o) $(LIB)
 	$(SAY)$(CC) $^ -o $@
