@@ -11,6 +11,8 @@
 #include <stdbool.h>
 #include <string.h>
 
+#include "octets.h"
+
 enum {
     FLAG_CHECKSUM_BLANK = 1,
     FLAG_DATA_VALIDATED = 2,
@@ -97,28 +99,6 @@ struct verdict {
     uint32_t cause;
     uint32_t place;
 };
-
-static uint16_t get16(const uint8_t *from)
-{
-    return (uint16_t)(from[0] | from[1] << 8);
-}
-
-static uint32_t get32(const uint8_t *from)
-{
-    return get16(from) | (uint32_t)get16(from + 2) << 16;
-}
-
-static void put16(uint8_t *to, uint16_t value)
-{
-    to[0] = (uint8_t)value;
-    to[1] = (uint8_t)(value >> 8);
-}
-
-static void put32(uint8_t *to, uint32_t value)
-{
-    put16(to, (uint16_t)value);
-    put16(to + 2, (uint16_t)(value >> 16));
-}
 
 static uint8_t *slot_at(uint8_t *ring, uint32_t n, size_t slot_size)
 {

@@ -4,6 +4,8 @@
 #include <string.h>
 
 #include "grant_table.h"
+#include "octets.h"
+#include "slot_bits.h"
 
 enum {
     /* The counter wraps, and the slots go on at the ring's beginning, halfway through. */
@@ -14,11 +16,6 @@ enum {
     GRANT_READ_WRITE = TOLLMEANDER_GRANTED | TOLLMEANDER_GRANT_WRITABLE,
     UNGRANTED = SCENE_PAGES,
 
-    FLAG_CHECKSUM_BLANK = 1,
-    FLAG_MORE_DATA = 4,
-    FLAG_EXTRA_FOLLOWS = 8,
-    EXTRA_GSO = 1,
-
     /* Every octet of a page that is posted on, so that one left unwritten shows. */
     OLD_OCTET = 0xa5,
 
@@ -26,18 +23,6 @@ enum {
     OFFSET_STEP = 64,
     FRAME_STEP = 5 * 64
 };
-
-static void put16(uint8_t *to, uint32_t value)
-{
-    to[0] = (uint8_t)value;
-    to[1] = (uint8_t)(value >> 8);
-}
-
-static void put32(uint8_t *to, uint32_t value)
-{
-    put16(to, value);
-    put16(to + 2, value >> 16);
-}
 
 static uint32_t slots_of(const struct row *row)
 {
@@ -81,7 +66,7 @@ static void post_extra(struct scene *scene, uint32_t n)
 {
     uint8_t *slot = slot_at(scene, n, TOLLMEANDER_TRANSMIT_SLOT_SIZE);
 
-    slot[0] = EXTRA_GSO;
+    slot[0] = EXTRA_TYPE_GSO;
     put16(slot + 2, SCENE_GSO_SIZE);
     slot[4] = SCENE_GSO_TYPE;
 }
@@ -95,12 +80,12 @@ static void post_data(struct scene *scene, uint32_t n, uint32_t k, uint32_t plac
     uint32_t offset = offset_of(row, n, part);
     uint32_t page = n % SCENE_PAGES;
     bool is_last = k + 1 == row->data_slots;
-    uint32_t flags = is_last ? 0 : FLAG_MORE_DATA;
+    uint32_t flags = is_last ? 0 : MORE_DATA;
 
     if (k == 0)
-        flags |= FLAG_CHECKSUM_BLANK;
+        flags |= CHECKSUM_BLANK;
     if (k == 0 && row->extras > 0)
-        flags |= FLAG_EXTRA_FOLLOWS;
+        flags |= EXTRA_FOLLOWS;
     put32(slot, row->answer == TOLLMEANDER_SPOILED && is_last ? UNGRANTED : page);
     put16(slot + 4, offset);
     put16(slot + 6, flags);

@@ -9,6 +9,8 @@
 #include <string.h>
 
 #include "check.h"
+#include "octets.h"
+#include "slot_bits.h"
 #include "tollmeander.h"
 
 #define AT(field, offset) \
@@ -89,9 +91,6 @@ enum {
     RANGE_GREF = 8,         /* a range of page 1, set by each check */
     GRANTS = 9,
     ACCESS = TOLLMEANDER_GRANTED | TOLLMEANDER_GRANT_WRITABLE,
-    MORE_DATA = 4,
-    EXTRA_FOLLOWS = 8,
-    ANOTHER_EXTRA = 1,
     GSO_SIZE = 1460,
     LONGEST_PAGES = 16      /* of a frame */
 };
@@ -117,23 +116,6 @@ static uint32_t (*const declared_post)(uint32_t, uint8_t *, size_t, const uint8_
                                        uint8_t *, size_t, const uint32_t *, size_t,
                                        const uint8_t *, size_t, uint32_t, uint16_t, uint8_t,
                                        struct tollmeander_report *) = tollmeander_transmit_post;
-
-static void put16(uint8_t *at, uint32_t value)
-{
-    at[0] = (uint8_t)value;
-    at[1] = (uint8_t)(value >> 8);
-}
-
-static void put32(uint8_t *at, uint32_t value)
-{
-    put16(at, value);
-    put16(at + 2, value >> 16);
-}
-
-static uint32_t get32(const uint8_t *at)
-{
-    return at[0] | (uint32_t)at[1] << 8 | (uint32_t)at[2] << 16 | (uint32_t)at[3] << 24;
-}
 
 static void grant_range(uint32_t gref, uint32_t page, uint32_t bits, uint32_t start,
                         uint32_t length)
@@ -600,7 +582,7 @@ static void post_longest(uint8_t extra_flags, uint32_t data_flags)
     open_queue(0);
     post_data(READ_GREF, 0, MORE_DATA | EXTRA_FOLLOWS, 1, 60 * datas);
     for (uint32_t i = 1; i <= extras; i++)
-        post_extra(1, i < extras ? ANOTHER_EXTRA : extra_flags, 1460, 1);
+        post_extra(1, i < extras ? EXTRA_MORE : extra_flags, 1460, 1);
     for (uint32_t i = 2; i <= datas; i++)
         post_data(READ_GREF, 0, i < datas ? MORE_DATA : data_flags, i, 60);
 }
@@ -612,7 +594,7 @@ static void check_packet_slots(void)
 
     post_longest(0, 0);
     REPORTS(TAKE(), TOLLMEANDER_DONE, 0, 0, TOLLMEANDER_PACKET_SLOTS_MAX, 1, total, 0, 0, 1460, 1);
-    post_longest(ANOTHER_EXTRA, 0);
+    post_longest(EXTRA_MORE, 0);
     REPORTS(TAKE(), TOLLMEANDER_MISSHAPEN, 0);
     post_longest(0, MORE_DATA);
     REPORTS(TAKE(), TOLLMEANDER_MISSHAPEN, 0);

@@ -138,24 +138,20 @@ static void *run_guest(void *unused)
 
 /* The host. */
 
-/* The reply to request n, in the private page: the guest may have written over its own. */
-static void read_reply(uint32_t n, uint32_t *reply)
+/* A word of the reply to request n, in the private page: the guest may have written over its own. */
+static uint32_t reply_word(uint32_t n, uint32_t word)
 {
-    uint32_t first = ring_slot(RECEIVE_SLOT_WORDS, n);
-
-    memcpy(reply, host.ring.page + RING_WORD * first, RECEIVE_SLOT_WORDS * sizeof *reply);
+    return private_word(host.ring.page, ring_slot(RECEIVE_SLOT_WORDS, n) + word);
 }
 
 static bool is_reply(uint32_t n, uint32_t piece, bool last)
 {
     uint32_t ids = version_count(rewriting_of(n), n, 0, RECEIVE_SLOT_WORDS);
-    uint32_t reply[RECEIVE_SLOT_WORDS];
     bool id = false;
 
-    read_reply(n, reply);
     for (uint32_t version = 0; version < ids; version++)
-        id |= reply[0] == version_id(n, version);
-    return id && reply[1] == (piece << 16 | (last ? 0 : MORE_DATA));
+        id |= reply_word(n, 0) == version_id(n, version);
+    return id && reply_word(n, 1) == (piece << 16 | (last ? 0 : MORE_DATA));
 }
 
 /* Whether exactly one version's page has the piece and all else is clear. Clears it. */

@@ -257,10 +257,7 @@ static void *run_guest(void *argument)
 /* The reply to slot n, in the private page: the guest may have written over the one in its own. */
 static uint32_t reply_to(uint32_t n)
 {
-    uint32_t reply;
-
-    memcpy(&reply, host.ring.page + RING_WORD * ring_slot(TRANSMIT_SLOT_WORDS, n), sizeof reply);
-    return reply;
+    return private_word(host.ring.page, ring_slot(TRANSMIT_SLOT_WORDS, n));
 }
 
 /* The version of its last word that a slot was taken in, by its reply; VERSIONS if none. */
