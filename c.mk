@@ -5,6 +5,7 @@
 #   demo                builds the demo and runs it (DEMO_OPTIONS="--packets 1000")
 #   test-c              tests/c/run.sh
 #   test-programs       builds what the tests run
+#   warnings            prints the warnings that C compiles without
 
 include settings.mk
 
@@ -30,7 +31,7 @@ RING_TESTS := edges interleave front_edges front_interleave
 TEST_PROGRAMS := $(addprefix $(BUILD)/tests/,layout $(RING_TESTS) $(THREAD_TESTS)) \
                  $(addprefix $(BUILD)/tsan/,$(THREAD_TESTS))
 
-.PHONY: lib install demo test-c test-programs
+.PHONY: lib install demo test-c test-programs warnings
 
 lib: $(LIB) $(PC)
 
@@ -56,6 +57,9 @@ test-c: $(TOLLMEANDER_LIB)
 	tests/c/run.sh $(TOLLMEANDER_LIB)
 
 test-programs: $(TEST_PROGRAMS) $(DEMO)
+
+warnings:
+	@echo $(C_WARNINGS)
 
 $(BUILD)/obj/%.o: %.c
 	@mkdir -p $(@D)

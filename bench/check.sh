@@ -4,28 +4,11 @@
 # status is 0 only if F is 0.
 set -u
 cd "$(dirname "$0")/.." || exit 2
+. tests/check.sh || exit 2
 BUILD=$(realpath -m "${BUILD:-build}")
 export TOLLMEANDER_LIB=$BUILD/bench/yardstick
 # A folder of its own, since the library's tests link the library.
 export CARGO_TARGET_DIR=$BUILD/bench/tests
-
-passed=0
-failed=0
-
-# Runs a test: its name, then its command, whose output is shown if it fails.
-check() {
-    local name=$1 log
-    shift
-    if log=$("$@" 2>&1); then
-        [ -z "$log" ] || echo "$log" | tail -n 2
-        echo "ok $name"
-        passed=$((passed + 1))
-    else
-        echo "$log"
-        echo "FAILED $name"
-        failed=$((failed + 1))
-    fi
-}
 
 differential() {
     (cd tests && cargo run -q --release --offline -p differential -- "$@")
@@ -37,10 +20,8 @@ copies_by_memcpy() {
     nm -u "$object" | grep -qw memcpy && ! objdump -d "$object" | grep -qw rep
 }
 
-check 'plain C: compiles without warnings' make -s -f "${BENCH_MK:-bench.mk}" BUILD="$BUILD" bench-yardstick
+check 'plain C: compiles without warnings' brief make -s -f bench.mk BUILD="$BUILD" bench-yardstick
 check 'plain C: copies by memcpy' copies_by_memcpy
-check 'plain C: differential' differential run --seed 1 --cases 30000
-check 'plain C: racing guest' differential racing --seconds 2
-
-echo "bench: $passed passed, $failed failed"
-[ "$failed" -eq 0 ]
+check 'plain C: differential' brief differential run --seed 1 --cases 30000
+check 'plain C: racing guest' brief differential racing --seconds 2
+check_result bench

@@ -13,22 +13,8 @@ fi
 export TOLLMEANDER_LIB
 TOLLMEANDER_LIB=$(realpath "$1")
 cd "$(dirname "$0")" || exit 2
-
-passed=0
-failed=0
-
-# Runs a test: its name, then its command.
-check() {
-    local name=$1
-    shift
-    if "$@"; then
-        echo "ok $name"
-        passed=$((passed + 1))
-    else
-        echo "FAILED $name"
-        failed=$((failed + 1))
-    fi
-}
+# shellcheck source=tests/check.sh
+. ./check.sh || exit 2
 
 program() {
     cargo run -q --release --offline -p "$@"
@@ -56,7 +42,5 @@ check replay replay
 check divide divide
 check differential program differential -- run --seed 1 --cases 200000
 check racing program differential -- racing --seconds 6
-check mutants ./mutants.sh "$TOLLMEANDER_LIB"
-
-echo "tests: $passed passed, $failed failed"
-[ "$failed" -eq 0 ]
+check mutants program mutants
+check_result tests

@@ -1,18 +1,17 @@
 #!/bin/sh
-# The README's C example is tests/c/example.c, and prints what it must: example.sh ARCHIVE WORKDIR
+# The README's C example is tests/c/example.c, compiles with WARNINGS, and prints what it must:
+# example.sh ARCHIVE WORKDIR
 set -eu
 lib=$1
 work=$2
-readme=${README:-README.md}
-[ -f "$readme" ] || readme=README-c.md
 
 # The first block of C in the README that includes the header.
 awk '$0 == "```c" { inside = 1; block = ""; next }
      inside && /^```/ { inside = 0; if (block ~ /tollmeander\.h/) { printf "%s", block; exit } }
-     inside { block = block $0 "\n" }' "$readme" > "$work/readme.c"
+     inside { block = block $0 "\n" }' README.md > "$work/readme.c"
 diff -u tests/c/example.c "$work/readme.c"
-gcc -std=c99 -Wall -Wextra -Wpedantic -Wshadow -Wconversion -Werror -Iinclude tests/c/example.c \
-    "$lib" -o "$work/example"
+# shellcheck disable=SC2086
+gcc -std=c99 ${WARNINGS:?} -Iinclude tests/c/example.c "$lib" -o "$work/example"
 "$work/example" > "$work/example.out"
 diff -u - "$work/example.out" <<'END'
 60 bytes: hello from the guest

@@ -1,66 +1,57 @@
-#!/bin/sh
+#!/bin/bash
 # The tests of the C side over a built archive: run.sh path/to/libtollmeander.a
+# Each test ends with a line 'ok NAME' or 'FAILED NAME', the run with 'tests: P passed, F failed'. The exit status is 0
+# only if F is 0.
 set -u
 if [ $# -ne 1 ] || [ ! -f "$1" ]; then
     echo "usage: tests/c/run.sh path/to/libtollmeander.a" >&2
     exit 2
 fi
 lib=$(realpath "$1")
-cd "$(dirname "$0")/../.." || exit 1
+cd "$(dirname "$0")/../.." || exit 2
+. tests/check.sh || exit 2
 work=$(mktemp -d)
 trap 'rm -rf "$work"' EXIT
 trap 'exit 1' HUP INT TERM
-passed=0
-failed=0
 
-# Runs a command as a test of some name; its output is shown if it fails.
-test_of() {
-    name=$1
-    shift
-    if "$@" > "$work/log" 2>&1; then
-        passed=$((passed + 1))
-        echo "ok $name"
-    else
-        failed=$((failed + 1))
-        cat "$work/log"
-        echo "FAILED $name"
-    fi
+# What a strict user compiles with, for the scripts.
+WARNINGS=$(make -s -f c.mk warnings) || exit 2
+export WARNINGS
+
+# Builds a program in the work folder.
+build() {
+    make -s V=1 -f c.mk "$work/build/$1" TOLLMEANDER_LIB="$lib" BUILD="$work/build"
 }
 
 # Builds a program and runs it.
 program() {
-    target=$work/build/$1
-    shift
-    make -s V=1 -f "${C_MK:-c.mk}" "$target" TOLLMEANDER_LIB="$lib" BUILD="$work/build" &&
-        timeout 100 "$target" "$@"
+    build "$1" && timeout 100 "$work/build/$1" "${@:2}"
 }
 
 demo() {
-    make -s V=1 -f "${C_MK:-c.mk}" "$work/build/tollmeander-demo" TOLLMEANDER_LIB="$lib" \
-        BUILD="$work/build" && timeout 100 sh tests/c/demo.sh "$work/build/tollmeander-demo" "$work"
+    build tollmeander-demo && timeout 100 sh tests/c/demo.sh "$work/build/tollmeander-demo" "$work"
 }
 
-test_of 'layout: header and library agree' program tests/layout
-test_of 'symbols: memmove only, PIE, shared object' sh tests/c/symbols.sh "$lib" "$work"
-test_of 'install: pkg-config, C99, C++' sh tests/c/install.sh "$lib" "$work"
-test_of 'header: words of four octets do not compile' sh tests/c/old_table.sh "$work"
-test_of 'example: as in the README' sh tests/c/example.sh "$lib" "$work"
-test_of 'host: both ends serve C99 and C++' sh tests/host/headers.sh "$lib" "$work"
-test_of 'host: edges' program tests/edges
-test_of "host: edges of the driver's end" program tests/front_edges
-test_of 'host: every interleaving of one call' program tests/interleave
-test_of 'host: every interleaving of one call of the driver' program tests/front_interleave
-test_of 'host: edits that must fail' timeout 100 sh tests/host/must_fail.sh "$lib" "$work"
-test_of 'host: transmit, 1,000,000 packets' program tests/transmit_run 1000000
-test_of 'host: receive, 1,000,000 frames' program tests/receive_run 1000000
-test_of 'host: post and take, 500,000 packets' program tests/post_run 500000
-test_of 'host: transmit, slots rewritten' program tests/hostile_transmit 100000
-test_of 'host: receive, requests rewritten' program tests/hostile_receive 100000
-test_of 'host: transmit, thread sanitizer' program tsan/transmit_run 30000
-test_of 'host: receive, thread sanitizer' program tsan/receive_run 30000
-test_of 'host: post and take, thread sanitizer' program tsan/post_run 30000
-test_of 'host: transmit, slots rewritten, thread sanitizer' program tsan/hostile_transmit 10000
-test_of 'host: receive, requests rewritten, thread sanitizer' program tsan/hostile_receive 10000
-test_of 'demo: table, counts, options' demo
-echo "tests: $passed passed, $failed failed"
-[ "$failed" -eq 0 ]
+check 'layout: header and library agree' brief program tests/layout
+check 'symbols: memmove only, PIE, shared object' brief sh tests/c/symbols.sh "$lib" "$work"
+check 'install: pkg-config, C99, C++' brief sh tests/c/install.sh "$lib" "$work"
+check 'header: words of four octets do not compile' brief sh tests/c/old_table.sh "$work"
+check 'example: as in the README' brief sh tests/c/example.sh "$lib" "$work"
+check 'host: both ends serve C99 and C++' brief sh tests/host/headers.sh "$lib" "$work"
+check 'host: edges' brief program tests/edges
+check "host: edges of the driver's end" brief program tests/front_edges
+check 'host: every interleaving of one call' brief program tests/interleave
+check 'host: every interleaving of one call of the driver' brief program tests/front_interleave
+check 'host: edits that must fail' brief timeout 100 sh tests/host/must_fail.sh "$lib" "$work"
+check 'host: transmit, 1,000,000 packets' brief program tests/transmit_run 1000000
+check 'host: receive, 1,000,000 frames' brief program tests/receive_run 1000000
+check 'host: post and take, 500,000 packets' brief program tests/post_run 500000
+check 'host: transmit, slots rewritten' brief program tests/hostile_transmit 100000
+check 'host: receive, requests rewritten' brief program tests/hostile_receive 100000
+check 'host: transmit, thread sanitizer' brief program tsan/transmit_run 30000
+check 'host: receive, thread sanitizer' brief program tsan/receive_run 30000
+check 'host: post and take, thread sanitizer' brief program tsan/post_run 30000
+check 'host: transmit, slots rewritten, thread sanitizer' brief program tsan/hostile_transmit 10000
+check 'host: receive, requests rewritten, thread sanitizer' brief program tsan/hostile_receive 10000
+check 'demo: table, counts, options' brief demo
+check_result tests

@@ -26,6 +26,6 @@ strict='-Wl,-z,text -Wl,-z,defs -Wl,--fatal-warnings'
 gcc -fPIE -pie $include "$here/example.c" "$lib" $strict -o "$work/pie"
 # shellcheck disable=SC2086
 gcc -shared -Wl,--whole-archive "$lib" -Wl,--no-whole-archive $strict -o "$work/libshared.so"
-gcc $include "$here/example.c" "$work/libshared.so" -Wl,-rpath,"$work" -o "$work/with-shared"
-"$work/pie"
-"$work/with-shared"
+gcc "$include" "$here/example.c" "$work/libshared.so" -Wl,-rpath,"$work" -o "$work/with-shared"
+"$work/pie" > /dev/null
+"$work/with-shared" > /dev/null
