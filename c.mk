@@ -26,9 +26,10 @@ GUEST_PARTS := host/back_ring host/front_ring \
 DEMO_PARTS := $(GUEST_PARTS) $(addprefix demo/,guest vif options outcome progress table main)
 THREAD_PARTS := $(GUEST_PARTS) tests/host/channel
 
+CALL_TESTS := layout take put post
 THREAD_TESTS := transmit_run receive_run post_run hostile_transmit hostile_receive
 RING_TESTS := edges interleave front_edges front_interleave
-TEST_PROGRAMS := $(addprefix $(BUILD)/tests/,layout $(RING_TESTS) $(THREAD_TESTS)) \
+TEST_PROGRAMS := $(addprefix $(BUILD)/tests/,$(CALL_TESTS) $(RING_TESTS) $(THREAD_TESTS)) \
                  $(addprefix $(BUILD)/tsan/,$(THREAD_TESTS))
 
 .PHONY: lib install demo test-c test-programs warnings
@@ -72,7 +73,8 @@ $(BUILD)/obj-tsan/%.o: %.c
 $(DEMO): $(DEMO_PARTS:%=$(BUILD)/obj/%.o) $(LIB)
 	$(SAY)$(CC) $^ -o $@
 
-$(BUILD)/tests/layout: $(BUILD)/obj/tests/c/layout.o $(LIB)
+$(CALL_TESTS:%=$(BUILD)/tests/%): $(BUILD)/tests/%: $(BUILD)/obj/tests/c/%.o \
+                                  $(BUILD)/obj/tests/c/lent.o $(LIB)
 	@mkdir -p $(@D)
 	$(SAY)$(CC) $^ -o $@
 

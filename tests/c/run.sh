@@ -32,7 +32,10 @@ demo() {
     build tollmeander-demo && timeout 100 sh tests/c/demo.sh "$work/build/tollmeander-demo" "$work"
 }
 
-check 'layout: header and library agree' brief program tests/layout
+check 'header: numbers and layouts, empty buffers, odd addresses' brief program tests/layout
+check 'calls: take' brief program tests/take
+check 'calls: put' brief program tests/put
+check 'calls: post' brief program tests/post
 check 'symbols: memmove only, PIE, shared object' brief sh tests/c/symbols.sh "$lib" "$work"
 check 'install: pkg-config, C99, C++' brief sh tests/c/install.sh "$lib" "$work"
 check 'header: words of four octets do not compile' brief sh tests/c/old_table.sh "$work"
