@@ -24,7 +24,7 @@ DEMO := $(BUILD)/tollmeander-demo
 GUEST_PARTS := host/back_ring host/front_ring \
                $(addprefix guest/,slot_ring guest_pages traffic sender poster receiver device)
 DEMO_PARTS := $(GUEST_PARTS) $(addprefix demo/,guest vif options outcome progress table main)
-THREAD_PARTS := $(GUEST_PARTS) tests/host/channel
+THREAD_PARTS := $(GUEST_PARTS) tests/host/channel tests/host/run
 
 CALL_TESTS := layout take put post
 THREAD_TESTS := transmit_run receive_run post_run hostile_transmit hostile_receive

@@ -1,7 +1,6 @@
 #include "channel.h"
 
 #include <poll.h>
-#include <stdint.h>
 #include <stdio.h>
 #include <stdlib.h>
 #include <sys/eventfd.h>
@@ -15,7 +14,7 @@ static void die(const char *what)
 
 void channel_open(struct channel *channel)
 {
-    channel->fd = eventfd(0, EFD_NONBLOCK);
+    *channel = (struct channel){ .fd = eventfd(0, EFD_NONBLOCK) };
     if (channel->fd < 0)
         die("eventfd");
 }
@@ -28,14 +27,14 @@ void channel_notify(struct channel *channel)
         die("write to an eventfd");
 }
 
-bool channel_wait(struct channel *channel)
+void channel_sleep(struct channel *channel)
 {
     struct pollfd poller = { .fd = channel->fd, .events = POLLIN };
     uint64_t events;
 
+    channel->sleeps++;
     if (poll(&poller, 1, STALL_MS) <= 0)
-        return false;
-    if (read(channel->fd, &events, sizeof events) != (ssize_t)sizeof events)
+        channel->stalled = true;
+    else if (read(channel->fd, &events, sizeof events) != (ssize_t)sizeof events)
         die("read from an eventfd");
-    return true;
 }

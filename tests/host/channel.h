@@ -1,20 +1,24 @@
-/* An event channel between two threads: the one sleeps until the other notifies. */
+/* An event channel to one of two threads, which sleeps until the other notifies it. */
 #ifndef CHANNEL_H
 #define CHANNEL_H
 
 #include <stdbool.h>
+#include <stdint.h>
 
-/* A wait without an event for so long counts as a stall: some notification was missed. */
+/* A sleep without an event for so long is a stall: some notification was missed. */
 enum { STALL_MS = 5000 };
 
+/* The fields are the sleeper's; others read them when it has ended. */
 struct channel {
     int fd;
+    uint64_t sleeps;
+    bool stalled;
 };
 
 void channel_open(struct channel *channel);
 void channel_notify(struct channel *channel);
 
-/* Sleeps until an event comes and takes it; false is a stall. */
-bool channel_wait(struct channel *channel);
+/* Sleeps until an event comes, and takes it, or until it is a stall. */
+void channel_sleep(struct channel *channel);
 
 #endif

@@ -18,7 +18,7 @@
 #include "run_options.h"
 #include "slot_bits.h"
 #include "slot_ring.h"
-#include "thread.h"
+#include "threads.h"
 #include "versions.h"
 
 enum {
@@ -33,7 +33,6 @@ struct host {
     uint64_t frames;
     uint64_t wrong;
     uint64_t unexpected;
-    bool stalled;
 };
 
 static struct ring_page page;
@@ -44,6 +43,7 @@ static bool ruined[TOLLMEANDER_RING_SLOTS];
 static struct rng guest_rng;
 static uint64_t rewrites, ruined_requests;
 static _Atomic bool finished;
+static struct run_options options;
 static struct host host;
 
 static enum rewriting rewriting_of(uint32_t n)
@@ -124,7 +124,7 @@ static void post_requests(uint32_t count)
         channel_notify(&to_host);
 }
 
-static void *run_guest(void *unused)
+static void run_guest(void)
 {
     while (!is_finished()) {
         rewrite_some();
@@ -133,7 +133,6 @@ static void *run_guest(void *unused)
         if (front.published - front.replied < MOST_REQUESTS)
             post_requests(1 + rng_below(&guest_rng, 3));
     }
-    return unused;
 }
 
 /* The host. */
@@ -201,26 +200,31 @@ static void deliver(const uint8_t *frame, uint32_t length, const struct guest_me
             host.wrong++;
         host.frames++;
     } else if (back_ring_may_sleep(answer)) {
-        host.stalled = !channel_wait(&to_host);
+        channel_sleep(&to_host);
     } else {
         host.unexpected++;
     }
 }
 
-static void run_host(const struct run_options *options)
+static bool host_goes_on(void)
+{
+    return !to_host.stalled && host.unexpected == 0;
+}
+
+static void run_host(void)
 {
     static uint8_t frame[MOST_PIECES * TOLLMEANDER_PAGE_SIZE];
     struct guest_memory memory = version_pages_memory(&pages);
-    struct rng rng = rng_of(options->seed, 1);
+    struct rng rng = rng_of(options.seed, 1);
 
-    while (host.frames < options->packets && !host.stalled && host.unexpected == 0) {
+    while (host.frames < options.packets && host_goes_on()) {
         uint64_t number = host.frames;
         uint32_t length = TOLLMEANDER_FRAME_MIN +
                           rng_below(&rng, sizeof frame - TOLLMEANDER_FRAME_MIN);
 
         memset(frame, 1 + (int)(number % 255), length);
         memcpy(frame, &number, sizeof number);
-        while (host.frames == number && !host.stalled && host.unexpected == 0)
+        while (host.frames == number && host_goes_on())
             deliver(frame, length, &memory);
     }
     atomic_store_explicit(&finished, true, memory_order_release);
@@ -228,21 +232,16 @@ static void run_host(const struct run_options *options)
 
 int main(int argc, char **argv)
 {
-    struct run_options options = run_options_read(argc, argv);
-    pthread_t guest_thread;
-
+    options = run_options_read(argc, argv);
     version_pages_grant(&pages);
     channel_open(&to_host);
     guest_rng = rng_of(options.seed, 2);
     slot_ring_open(&front, &page, RECEIVE_SLOT_WORDS, (uint32_t)FIRST_COUNTER);
     back_ring_open_receive(&host.ring, &page, (uint32_t)FIRST_COUNTER);
-    guest_thread = thread_start(run_guest, NULL);
-    run_host(&options);
-    pthread_join(guest_thread, NULL);
+    threads_run(run_guest, run_host);
     printf("hostile receive: %" PRIu64 " frames, %" PRIu64 " requests rewritten, %" PRIu64
            " ruined, %" PRIu64 " wrong frames, %" PRIu64 " unexpected answers; %s\n",
            host.frames, rewrites, ruined_requests, host.wrong, host.unexpected,
-           host.stalled ? "a stall" : "no stall");
-    return host.frames == options.packets && host.wrong == 0 && host.unexpected == 0 &&
-           !host.stalled ? 0 : 1;
+           to_host.stalled ? "a stall" : "no stall");
+    return host.frames == options.packets && host.wrong == 0 && host_goes_on() ? 0 : 1;
 }

@@ -19,7 +19,7 @@
 #include "run_options.h"
 #include "slot_bits.h"
 #include "slot_ring.h"
-#include "thread.h"
+#include "threads.h"
 #include "versions.h"
 
 enum {
@@ -49,7 +49,6 @@ struct host {
     uint64_t packets;
     uint64_t wrong;
     uint64_t unexpected;
-    bool stalled;
 };
 
 static struct ring_page page;
@@ -60,6 +59,7 @@ static struct published_slot slots[TOLLMEANDER_RING_SLOTS];
 static struct rng guest_rng;
 static uint64_t rewrites;
 static bool guest_stalled;
+static struct run_options options;
 static struct host host;
 
 static struct shape shape_of(uint64_t number)
@@ -236,20 +236,19 @@ static void post_packet(uint64_t number)
     publish(front.written - front.published);
 }
 
-static void *run_guest(void *argument)
+static void run_guest(void)
 {
-    uint64_t packets = *(const uint64_t *)argument;
+    for (uint64_t number = 0; number < options.packets && !guest_stalled; number++) {
+        bool is_last = number + 1 == options.packets;
 
-    for (uint64_t number = 0; number < packets && !guest_stalled; number++) {
         post_packet(number);
-        if (front.published - front.replied >= SLOTS_BEFORE_A_WAIT || number + 1 == packets) {
+        if (front.published - front.replied >= SLOTS_BEFORE_A_WAIT || is_last) {
             rewrite_until(RING_RSP_PROD, front.published);
             front.replied = front.published;
         } else {
             rewrite_some();
         }
     }
-    return NULL;
 }
 
 /* The host. */
@@ -359,37 +358,33 @@ static void serve(uint8_t *frame, const struct guest_memory *memory)
             host.wrong++;
         host.packets++;
     } else if (back_ring_may_sleep(answer)) {
-        host.stalled = !channel_wait(&to_host);
+        channel_sleep(&to_host);
     } else {
         host.unexpected++;
     }
 }
 
-static void run_host(uint64_t packets)
+static void run_host(void)
 {
     static uint8_t frame[TOLLMEANDER_FRAME_MAX];
     struct guest_memory memory = version_pages_memory(&pages);
 
-    while (host.packets < packets && !host.stalled && host.unexpected == 0)
+    while (host.packets < options.packets && !to_host.stalled && host.unexpected == 0)
         serve(frame, &memory);
 }
 
 int main(int argc, char **argv)
 {
-    struct run_options options = run_options_read(argc, argv);
-    pthread_t guest_thread;
-
+    options = run_options_read(argc, argv);
     fill_pages(options.seed);
     channel_open(&to_host);
     guest_rng = rng_of(options.seed, 2);
     slot_ring_open(&front, &page, TRANSMIT_SLOT_WORDS, (uint32_t)FIRST_COUNTER);
     back_ring_open_transmit(&host.ring, &page, (uint32_t)FIRST_COUNTER);
-    guest_thread = thread_start(run_guest, &options.packets);
-    run_host(options.packets);
-    pthread_join(guest_thread, NULL);
+    threads_run(run_guest, run_host);
     printf("hostile transmit: %" PRIu64 " packets, %" PRIu64 " slots rewritten, %" PRIu64
            " wrong frames, %" PRIu64 " unexpected answers; %s\n", host.packets, rewrites,
-           host.wrong, host.unexpected, guest_stalled || host.stalled ? "a stall" : "no stall");
+           host.wrong, host.unexpected, guest_stalled || to_host.stalled ? "a stall" : "no stall");
     return host.packets == options.packets && host.wrong == 0 && host.unexpected == 0 &&
-           !guest_stalled && !host.stalled ? 0 : 1;
+           !guest_stalled && !to_host.stalled ? 0 : 1;
 }

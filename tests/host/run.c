@@ -1,0 +1,68 @@
+#include "run.h"
+
+#include <inttypes.h>
+#include <stdio.h>
+
+#include "run_options.h"
+
+static struct frame_pool pool;
+
+void run_open(struct run *run, int argc, char **argv, bool plain)
+{
+    struct run_options options = run_options_read(argc, argv);
+
+    frame_pool_fill(&pool, options.seed);
+    run->traffic = (struct traffic){
+        .pool = &pool, .seed = options.seed, .packets = options.packets, .plain = plain
+    };
+    guest_pages_open(&run->pages, plain);
+    channel_open(&run->to_guest);
+    channel_open(&run->to_host);
+    run->rng = rng_of(options.seed, UINT64_MAX);
+}
+
+uint32_t run_pick(struct run *run, uint32_t most)
+{
+    return 1 + rng_below(&run->rng, most);
+}
+
+bool run_settle(struct run *run, const struct tollmeander_report *report, bool may_sleep)
+{
+    if (report->notify)
+        channel_notify(&run->to_guest);
+    if (report->answer == TOLLMEANDER_DONE)
+        return true;
+    if (may_sleep)
+        channel_sleep(&run->to_host);
+    else
+        run->unexpected++;
+    return false;
+}
+
+bool run_goes_on(const struct run *run)
+{
+    return !run->to_host.stalled && run->unexpected == 0;
+}
+
+void run_take(struct run *run, struct device *device, bool (*may_sleep)(uint32_t answer))
+{
+    static uint8_t frame[TOLLMEANDER_FRAME_MAX];
+    struct guest_memory memory = guest_pages_memory(&run->pages);
+
+    while (device->frames < run->traffic.packets && run_goes_on(run)) {
+        struct tollmeander_report report;
+        uint32_t answer = back_ring_take(&run->ring, &memory, frame, sizeof frame, &report);
+
+        if (run_settle(run, &report, may_sleep(answer)))
+            device_accept(device, frame, &report);
+    }
+}
+
+bool run_ended_well(const struct run *run)
+{
+    printf("%" PRIu64 " unexpected answers to the host; guest slept %" PRIu64 " times, host %" PRIu64
+           "; %s\n", run->unexpected, run->to_guest.sleeps, run->to_host.sleeps,
+           run->to_guest.stalled ? "the guest stalled" :
+           run->to_host.stalled ? "the host stalled" : "no stall");
+    return run->unexpected == 0 && !run->to_guest.stalled && !run->to_host.stalled;
+}
