@@ -8,45 +8,22 @@
 
 #include "back_ring.h"
 #include "check.h"
-#include "grant_table.h"
-#include "ring_page.h"
+#include "scene.h"
 #include "slot_bits.h"
 
-enum {
-    PAGES = 4,
-    GREF = 5,               /* the reference to page 0; the next ones name the next pages */
-    GRANTS = GREF + PAGES,
-    FRAME_SIZE = 60
-};
+enum { FRAME_SIZE = 60 };
 
-static struct ring_page page, before;
+static struct ring_page before;
 static struct back_ring ring;
 static struct tollmeander_report report;
-static uint8_t grants[GRANTS * TOLLMEANDER_GRANT_WORD_SIZE];
-static uint8_t window[PAGES * TOLLMEANDER_PAGE_SIZE];
 static uint8_t frame[TOLLMEANDER_FRAME_MAX];
-static const struct guest_memory memory = { grants, sizeof grants, window, sizeof window };
 
-static uint32_t word(uint32_t at)
-{
-    return atomic_load_explicit(&page.word[at], memory_order_relaxed);
-}
-
-static void set_word(uint32_t at, uint32_t value)
-{
-    atomic_store_explicit(&page.word[at], value, memory_order_relaxed);
-}
-
-/* Every octet of the page gets a value of its own, then the counters are set. */
 static void open_page(uint32_t counter)
 {
-    for (uint32_t at = 0; at < RING_WORDS; at++)
-        set_word(at, 0xC0DE0000 + at);
+    litter_page();
     set_word(RING_REQ_PROD, counter);
     set_word(RING_RSP_PROD, counter);
-    for (uint32_t i = 0; i < PAGES; i++)
-        grant_table_set(grants, GREF + i, i, TOLLMEANDER_GRANTED | TOLLMEANDER_GRANT_WRITABLE);
-    memset(window, 0xEE, sizeof window);
+    open_pages();
 }
 
 static void open_transmit(uint32_t counter)
@@ -81,13 +58,13 @@ static void write_request(uint32_t n, uint32_t id, uint32_t gref)
 static uint32_t take(void)
 {
     memcpy(&before, &page, sizeof page);
-    return back_ring_take(&ring, &memory, frame, sizeof frame, &report);
+    return back_ring_take(&ring, &granted, frame, sizeof frame, &report);
 }
 
 static uint32_t put(size_t length)
 {
     memcpy(&before, &page, sizeof page);
-    return back_ring_put(&ring, &memory, frame, length, &report);
+    return back_ring_put(&ring, &granted, frame, length, &report);
 }
 
 /* Words of the page that the last call changed. */
@@ -280,7 +257,7 @@ static void no_room_keeps_the_packet(void)
     write_data(1, GREF, 0, 77, FRAME_SIZE);
     set_word(RING_REQ_PROD, 2);
     memcpy(&before, &page, sizeof page);
-    CHECK(back_ring_take(&ring, &memory, frame, FRAME_SIZE - 1, &report) == TOLLMEANDER_NO_ROOM);
+    CHECK(back_ring_take(&ring, &granted, frame, FRAME_SIZE - 1, &report) == TOLLMEANDER_NO_ROOM);
     CHECK(changed() == 0);
     write_data(1, 0, 0, 78, 1);
     CHECK(take() == TOLLMEANDER_DONE);

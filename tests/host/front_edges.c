@@ -8,55 +8,31 @@
 
 #include "check.h"
 #include "front_ring.h"
-#include "grant_table.h"
-#include "ring_page.h"
+#include "scene.h"
 #include "slot_bits.h"
 
 enum {
-    PAGES = 4,
-    GREF = 5,                   /* the reference to page 0; the next ones name the next pages */
-    READ_GREF = GREF + PAGES,   /* page 1, to be read only */
-    GRANTS = READ_GREF + 1,
+    READ_GREF = FREE_GREF,      /* page 1, to be read only */
     FRAME_SIZE = 60,
     PAGE = TOLLMEANDER_PAGE_SIZE
 };
 
-static struct ring_page page, before;
+static struct ring_page before;
 static struct front_ring ring, ring_before;
 static struct tollmeander_report report;
 static struct front_packet packet;
-static uint8_t grants[GRANTS * TOLLMEANDER_GRANT_WORD_SIZE];
-static uint8_t window[PAGES * PAGE], window_before[PAGES * PAGE];
+static uint8_t window_before[sizeof window];
 static uint8_t frame[TOLLMEANDER_FRAME_MAX + 1];
-static const struct guest_memory memory = { grants, sizeof grants, window, sizeof window };
 static const uint32_t references[PAGES] = { GREF, GREF + 1, GREF + 2, GREF + 3 };
 static const struct front_gso no_gso, some_gso = { 1, 1460, 2 };
 
-static uint32_t word(uint32_t at)
-{
-    return atomic_load_explicit(&page.word[at], memory_order_relaxed);
-}
-
-static void set_word(uint32_t at, uint32_t value)
-{
-    atomic_store_explicit(&page.word[at], value, memory_order_relaxed);
-}
-
-/* Every word of the page gets a value of its own; a fresh ring must not mind. */
-static void litter_page(void)
-{
-    for (uint32_t at = 0; at < RING_WORDS; at++)
-        set_word(at, 0xC0DE0000 + at);
-}
-
+/* A fresh ring must not mind what was on its page. */
 static void open_ring(uint32_t counter)
 {
     litter_page();
     front_ring_open(&ring, &page, counter);
-    for (uint32_t i = 0; i < PAGES; i++)
-        grant_table_set(grants, GREF + i, i, TOLLMEANDER_GRANTED | TOLLMEANDER_GRANT_WRITABLE);
+    open_pages();
     grant_table_set(grants, READ_GREF, 1, TOLLMEANDER_GRANTED);
-    memset(window, 0xEE, sizeof window);
     for (uint32_t i = 0; i < sizeof frame; i++)
         frame[i] = (uint8_t)(i * 7 + i / PAGE);
 }
@@ -73,7 +49,7 @@ static uint32_t post_by(const uint32_t *list, size_t count, size_t length, struc
 {
     remember();
     memset(&report, 0x5A, sizeof report);
-    return front_ring_post(&ring, &memory, list, count, frame, length, gso, &report);
+    return front_ring_post(&ring, &granted, list, count, frame, length, gso, &report);
 }
 
 static uint32_t post(size_t length, struct front_gso gso)
@@ -161,7 +137,7 @@ static void opens_at_any_counter(void)
         expect_slot(&expected, n, GREF, 0, (n & 0xFFFF) | (uint32_t)FRAME_SIZE << 16);
         expected.word[RING_REQ_PROD] = n + 1;
         CHECK(page_is(&expected));
-        CHECK(memcmp(window, frame, FRAME_SIZE) == 0 && window[FRAME_SIZE] == 0xEE);
+        CHECK(memcmp(window, frame, FRAME_SIZE) == 0 && window[FRAME_SIZE] == OLD_OCTET);
     }
 }
 
@@ -181,7 +157,7 @@ static void writes_little(void)
     expect_slot(&expected, 257, GREF + 2, 0, 257 | 1u << 16);
     expected.word[RING_REQ_PROD] = 258;
     CHECK(page_is(&expected));
-    CHECK(memcmp(window, frame, 2 * PAGE + 1) == 0 && window[2 * PAGE + 1] == 0xEE);
+    CHECK(memcmp(window, frame, 2 * PAGE + 1) == 0 && window[2 * PAGE + 1] == OLD_OCTET);
 }
 
 /* Packets of three slots across the wrap of the counter. */

@@ -78,6 +78,8 @@ edit 'counters compared by less-than' \
 edit 'an overflow is copied' 's/else if (posted <= TOLLMEANDER_RING_SLOTS)/else/'
 edit 'a lowered req_prod takes slots back' 's/^        req_prod = known;/        ;/'
 edit 'any other req_prod is news' 's/return req_prod != known;/return true;/'
+edit 'req_prod is not acquired' 's/memory_order_acquire/memory_order_relaxed/'
+edit 'rsp_prod is not released' 's/memory_order_release/memory_order_relaxed/'
 
 compile -c host/back_ring.c -o "$work/back_ring.o"
 edits_of host/front_ring.c tests/host/front_edges.c tests/host/front_interleave.c \
