@@ -14,7 +14,7 @@
 #include <stdio.h>
 #include <string.h>
 
-#include "channel.h"
+#include "host_side.h"
 #include "run_options.h"
 #include "slot_bits.h"
 #include "slot_ring.h"
@@ -28,23 +28,16 @@ enum {
     REWRITES_AT_A_TIME = 64
 };
 
-struct host {
-    struct back_ring ring;
-    uint64_t frames;
-    uint64_t wrong;
-    uint64_t unexpected;
-};
-
 static struct ring_page page;
 static struct version_pages pages;
-static struct channel to_host;
 static struct slot_ring front;
 static bool ruined[TOLLMEANDER_RING_SLOTS];
 static struct rng guest_rng;
 static uint64_t rewrites, ruined_requests;
 static _Atomic bool finished;
 static struct run_options options;
-static struct host host;
+static struct host_side host;
+static uint64_t frames, wrong_frames;
 
 static enum rewriting rewriting_of(uint32_t n)
 {
@@ -121,7 +114,7 @@ static void post_requests(uint32_t count)
         slot_ring_write(&front, slot);
     }
     if (slot_ring_publish(&front, count))
-        channel_notify(&to_host);
+        channel_notify(&host.events);
 }
 
 static void run_guest(void)
@@ -195,20 +188,11 @@ static void deliver(const uint8_t *frame, uint32_t length, const struct guest_me
     uint32_t first = host.ring.consumed;
     uint32_t answer = back_ring_put(&host.ring, memory, frame, length, &report);
 
-    if (answer == TOLLMEANDER_DONE) {
-        if (!is_right(first, frame, length))
-            host.wrong++;
-        host.frames++;
-    } else if (back_ring_may_sleep(answer)) {
-        channel_sleep(&to_host);
-    } else {
-        host.unexpected++;
-    }
-}
-
-static bool host_goes_on(void)
-{
-    return !to_host.stalled && host.unexpected == 0;
+    if (!host_is_done(&host, answer, back_ring_may_sleep(answer)))
+        return;
+    if (!is_right(first, frame, length))
+        wrong_frames++;
+    frames++;
 }
 
 static void run_host(void)
@@ -217,14 +201,14 @@ static void run_host(void)
     struct guest_memory memory = version_pages_memory(&pages);
     struct rng rng = rng_of(options.seed, 1);
 
-    while (host.frames < options.packets && host_goes_on()) {
-        uint64_t number = host.frames;
+    while (frames < options.packets && host_goes_on(&host)) {
+        uint64_t number = frames;
         uint32_t length = TOLLMEANDER_FRAME_MIN +
                           rng_below(&rng, sizeof frame - TOLLMEANDER_FRAME_MIN);
 
         memset(frame, 1 + (int)(number % 255), length);
         memcpy(frame, &number, sizeof number);
-        while (host.frames == number && host_goes_on())
+        while (frames == number && host_goes_on(&host))
             deliver(frame, length, &memory);
     }
     atomic_store_explicit(&finished, true, memory_order_release);
@@ -234,14 +218,14 @@ int main(int argc, char **argv)
 {
     options = run_options_read(argc, argv);
     version_pages_grant(&pages);
-    channel_open(&to_host);
+    channel_open(&host.events);
     guest_rng = rng_of(options.seed, 2);
     slot_ring_open(&front, &page, RECEIVE_SLOT_WORDS, (uint32_t)FIRST_COUNTER);
     back_ring_open_receive(&host.ring, &page, (uint32_t)FIRST_COUNTER);
     threads_run(run_guest, run_host);
     printf("hostile receive: %" PRIu64 " frames, %" PRIu64 " requests rewritten, %" PRIu64
            " ruined, %" PRIu64 " wrong frames, %" PRIu64 " unexpected answers; %s\n",
-           host.frames, rewrites, ruined_requests, host.wrong, host.unexpected,
-           to_host.stalled ? "a stall" : "no stall");
-    return host.frames == options.packets && host.wrong == 0 && host_goes_on() ? 0 : 1;
+           frames, rewrites, ruined_requests, wrong_frames, host.unexpected,
+           host.events.stalled ? "a stall" : "no stall");
+    return frames == options.packets && wrong_frames == 0 && host_goes_on(&host) ? 0 : 1;
 }

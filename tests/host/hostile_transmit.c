@@ -14,8 +14,8 @@
 #include <stdio.h>
 #include <string.h>
 
-#include "channel.h"
 #include "clock.h"
+#include "host_side.h"
 #include "run_options.h"
 #include "slot_bits.h"
 #include "slot_ring.h"
@@ -44,23 +44,16 @@ struct published_slot {
     bool ruined;
 };
 
-struct host {
-    struct back_ring ring;
-    uint64_t packets;
-    uint64_t wrong;
-    uint64_t unexpected;
-};
-
 static struct ring_page page;
 static struct version_pages pages;
-static struct channel to_host;
 static struct slot_ring front;
 static struct published_slot slots[TOLLMEANDER_RING_SLOTS];
 static struct rng guest_rng;
 static uint64_t rewrites;
 static bool guest_stalled;
 static struct run_options options;
-static struct host host;
+static struct host_side host;
+static uint64_t packets, wrong_frames;
 
 static struct shape shape_of(uint64_t number)
 {
@@ -196,7 +189,7 @@ static void rewrite_until(uint32_t header_word, uint32_t value)
 static void publish(uint32_t count)
 {
     if (slot_ring_publish(&front, count))
-        channel_notify(&to_host);
+        channel_notify(&host.events);
 }
 
 /* Makes a slot one that would halt the ring or be refused. */
@@ -330,7 +323,7 @@ static bool find_parts(struct shape shape, uint32_t first, uint32_t *part)
 /* Whether a frame and its report are of one version of each of the packet's slots. */
 static bool is_right(uint32_t first, const uint8_t *frame, const struct tollmeander_report *report)
 {
-    struct shape shape = shape_of(host.packets);
+    struct shape shape = shape_of(packets);
     uint32_t part[MOST_DATA_SLOTS];
     uint32_t at = 0;
 
@@ -353,15 +346,11 @@ static void serve(uint8_t *frame, const struct guest_memory *memory)
     uint32_t first = host.ring.consumed;
     uint32_t answer = back_ring_take(&host.ring, memory, frame, TOLLMEANDER_FRAME_MAX, &report);
 
-    if (answer == TOLLMEANDER_DONE) {
-        if (!is_right(first, frame, &report))
-            host.wrong++;
-        host.packets++;
-    } else if (back_ring_may_sleep(answer)) {
-        channel_sleep(&to_host);
-    } else {
-        host.unexpected++;
-    }
+    if (!host_is_done(&host, answer, back_ring_may_sleep(answer)))
+        return;
+    if (!is_right(first, frame, &report))
+        wrong_frames++;
+    packets++;
 }
 
 static void run_host(void)
@@ -369,7 +358,7 @@ static void run_host(void)
     static uint8_t frame[TOLLMEANDER_FRAME_MAX];
     struct guest_memory memory = version_pages_memory(&pages);
 
-    while (host.packets < options.packets && !to_host.stalled && host.unexpected == 0)
+    while (packets < options.packets && host_goes_on(&host))
         serve(frame, &memory);
 }
 
@@ -377,14 +366,14 @@ int main(int argc, char **argv)
 {
     options = run_options_read(argc, argv);
     fill_pages(options.seed);
-    channel_open(&to_host);
+    channel_open(&host.events);
     guest_rng = rng_of(options.seed, 2);
     slot_ring_open(&front, &page, TRANSMIT_SLOT_WORDS, (uint32_t)FIRST_COUNTER);
     back_ring_open_transmit(&host.ring, &page, (uint32_t)FIRST_COUNTER);
     threads_run(run_guest, run_host);
     printf("hostile transmit: %" PRIu64 " packets, %" PRIu64 " slots rewritten, %" PRIu64
-           " wrong frames, %" PRIu64 " unexpected answers; %s\n", host.packets, rewrites,
-           host.wrong, host.unexpected, guest_stalled || to_host.stalled ? "a stall" : "no stall");
-    return host.packets == options.packets && host.wrong == 0 && host.unexpected == 0 &&
-           !guest_stalled && !to_host.stalled ? 0 : 1;
+           " wrong frames, %" PRIu64 " unexpected answers; %s\n", packets, rewrites, wrong_frames,
+           host.unexpected, guest_stalled || host.events.stalled ? "a stall" : "no stall");
+    return packets == options.packets && wrong_frames == 0 && host_goes_on(&host) &&
+           !guest_stalled ? 0 : 1;
 }

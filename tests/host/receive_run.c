@@ -30,7 +30,7 @@ static uint32_t post_in_pieces(void)
         uint32_t count = receiver_write(&receiver, run_pick(&run, left));
 
         if (slot_ring_publish(ring, count))
-            channel_notify(&run.to_host);
+            channel_notify(&run.host.events);
         dawdle(&run.rng);
     }
     return ring->written - ring->replied;
@@ -67,12 +67,12 @@ static bool put(const uint8_t *frame, uint32_t length)
 {
     struct guest_memory memory = guest_pages_memory(&run.pages);
     struct tollmeander_report report;
-    uint32_t answer = back_ring_put(&run.ring, &memory, frame, length, &report);
+    uint32_t answer = back_ring_put(&run.host.ring, &memory, frame, length, &report);
 
-    if (!run_settle(&run, &report, back_ring_may_sleep(answer)))
+    if (!run_is_done(&run, &report, back_ring_may_sleep(answer)))
         return false;
     if (report.total != length)
-        run.unexpected++;
+        run.host.unexpected++;
     bytes += length;
     return true;
 }
@@ -81,12 +81,12 @@ static void run_host(void)
 {
     static uint8_t frame[TOLLMEANDER_FRAME_MAX];
 
-    for (uint64_t number = 0; number < run.traffic.packets && run_goes_on(&run); number++) {
+    for (uint64_t number = 0; number < run.traffic.packets && host_goes_on(&run.host); number++) {
         struct packet packet;
 
         traffic_packet(&run.traffic, number, &packet);
         traffic_frame(&run.traffic, number, packet.length, frame);
-        while (!put(frame, packet.length) && run_goes_on(&run))
+        while (!put(frame, packet.length) && host_goes_on(&run.host))
             ;
     }
 }
@@ -105,7 +105,7 @@ int main(int argc, char **argv)
 {
     run_open(&run, argc, argv, false);
     receiver_open(&receiver, &run.page, &run.pages, &run.traffic, (uint32_t)FIRST_COUNTER);
-    back_ring_open_receive(&run.ring, &run.page, (uint32_t)FIRST_COUNTER);
+    back_ring_open_receive(&run.host.ring, &run.page, (uint32_t)FIRST_COUNTER);
     threads_run(run_guest, run_host);
     return report_run() ? 0 : 1;
 }

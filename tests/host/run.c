@@ -17,7 +17,7 @@ void run_open(struct run *run, int argc, char **argv, bool plain)
     };
     guest_pages_open(&run->pages, plain);
     channel_open(&run->to_guest);
-    channel_open(&run->to_host);
+    channel_open(&run->host.events);
     run->rng = rng_of(options.seed, UINT64_MAX);
 }
 
@@ -26,22 +26,11 @@ uint32_t run_pick(struct run *run, uint32_t most)
     return 1 + rng_below(&run->rng, most);
 }
 
-bool run_settle(struct run *run, const struct tollmeander_report *report, bool may_sleep)
+bool run_is_done(struct run *run, const struct tollmeander_report *report, bool may_sleep)
 {
     if (report->notify)
         channel_notify(&run->to_guest);
-    if (report->answer == TOLLMEANDER_DONE)
-        return true;
-    if (may_sleep)
-        channel_sleep(&run->to_host);
-    else
-        run->unexpected++;
-    return false;
-}
-
-bool run_goes_on(const struct run *run)
-{
-    return !run->to_host.stalled && run->unexpected == 0;
+    return host_is_done(&run->host, report->answer, may_sleep);
 }
 
 void run_take(struct run *run, struct device *device, bool (*may_sleep)(uint32_t answer))
@@ -49,20 +38,22 @@ void run_take(struct run *run, struct device *device, bool (*may_sleep)(uint32_t
     static uint8_t frame[TOLLMEANDER_FRAME_MAX];
     struct guest_memory memory = guest_pages_memory(&run->pages);
 
-    while (device->frames < run->traffic.packets && run_goes_on(run)) {
+    while (device->frames < run->traffic.packets && host_goes_on(&run->host)) {
         struct tollmeander_report report;
-        uint32_t answer = back_ring_take(&run->ring, &memory, frame, sizeof frame, &report);
+        uint32_t answer = back_ring_take(&run->host.ring, &memory, frame, sizeof frame, &report);
 
-        if (run_settle(run, &report, may_sleep(answer)))
+        if (run_is_done(run, &report, may_sleep(answer)))
             device_accept(device, frame, &report);
     }
 }
 
 bool run_ended_well(const struct run *run)
 {
+    const struct host_side *host = &run->host;
+
     printf("%" PRIu64 " unexpected answers to the host; guest slept %" PRIu64 " times, host %" PRIu64
-           "; %s\n", run->unexpected, run->to_guest.sleeps, run->to_host.sleeps,
+           "; %s\n", host->unexpected, run->to_guest.sleeps, host->events.sleeps,
            run->to_guest.stalled ? "the guest stalled" :
-           run->to_host.stalled ? "the host stalled" : "no stall");
-    return run->unexpected == 0 && !run->to_guest.stalled && !run->to_host.stalled;
+           host->events.stalled ? "the host stalled" : "no stall");
+    return host_goes_on(host) && !run->to_guest.stalled;
 }

@@ -8,10 +8,10 @@
 #include <stdbool.h>
 #include <stdint.h>
 
-#include "back_ring.h"
 #include "channel.h"
 #include "device.h"
 #include "guest_pages.h"
+#include "host_side.h"
 #include "ring_page.h"
 #include "rng.h"
 #include "traffic.h"
@@ -23,10 +23,9 @@ struct run {
     struct traffic traffic;
     struct ring_page page;      /* that both have mapped */
     struct guest_pages pages;
-    struct channel to_guest, to_host;
     struct rng rng;             /* the guest's */
-    struct back_ring ring;      /* the host's end */
-    uint64_t unexpected;        /* answers to the host that the traffic gives no reason for */
+    struct channel to_guest;
+    struct host_side host;
 };
 
 /*
@@ -38,14 +37,8 @@ void run_open(struct run *run, int argc, char **argv, bool plain);
 /* A number from 1 to most. */
 uint32_t run_pick(struct run *run, uint32_t most);
 
-/*
- * What the host does with a report: it notifies the guest, and where the call is not done it sleeps,
- * if it may, or counts the answer as unexpected. Whether the call is done.
- */
-bool run_settle(struct run *run, const struct tollmeander_report *report, bool may_sleep);
-
-/* Whether the host has seen neither a stall nor an unexpected answer. */
-bool run_goes_on(const struct run *run);
+/* What the host does with a call's report: notifies the guest, and as host_is_done. */
+bool run_is_done(struct run *run, const struct tollmeander_report *report, bool may_sleep);
 
 /* The host of a transmit ring: takes packets until the device has got all. */
 void run_take(struct run *run, struct device *device, bool (*may_sleep)(uint32_t answer));

@@ -34,7 +34,7 @@ static void publish_in_pieces(void)
         uint32_t piece = run_pick(&run, left);
 
         if (slot_ring_publish(&sender.ring, piece))
-            channel_notify(&run.to_host);
+            channel_notify(&run.host.events);
         left -= piece;
         dawdle(&run.rng);
     }
@@ -84,7 +84,7 @@ int main(int argc, char **argv)
 {
     run_open(&run, argc, argv, false);
     sender_open(&sender, &run.page, &run.pages, &run.traffic, (uint32_t)FIRST_COUNTER);
-    back_ring_open_transmit(&run.ring, &run.page, (uint32_t)FIRST_COUNTER);
+    back_ring_open_transmit(&run.host.ring, &run.page, (uint32_t)FIRST_COUNTER);
     device_open(&device, &run.traffic);
     threads_run(run_guest, run_host);
     return report_run() ? 0 : 1;
