@@ -20,7 +20,8 @@ test:
 	.ci/run
 
 soak: target/staticlib/libtollmeander.a
-	cd tests && TOLLMEANDER_LIB=$(abspath $(<D)) cargo run -q --release --offline -p differential -- run --seconds $(SECONDS) --seed $$(date +%s)
+	cd tests && TOLLMEANDER_LIB=$(abspath $(<D)) cargo run -q --release --offline -p differential -- \
+	    run --seconds $(SECONDS) --seed $$(date +%s)
 
 clean:
 	rm -rf target build tests/target

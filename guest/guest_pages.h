@@ -18,7 +18,7 @@ struct guest_pages {
     uint8_t window[GUEST_PAGES * TOLLMEANDER_PAGE_SIZE];
 };
 
-/* Grants the transmit pages, to be written too or only read, and the receive pages to be written. */
+/* Grants the transmit pages, to be written or read only, and the receive pages, to be written. */
 void guest_pages_open(struct guest_pages *pages, bool transmit_is_writable);
 
 /* The memory as the host lends it to the library. */

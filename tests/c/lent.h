@@ -1,6 +1,7 @@
 /*
- * What the tests of the three calls lend, and the guest's hand in it: a queue on a ring page, grants
- * of every kind, a window, a frame buffer, and a report between two words that must not be written.
+ * What the tests of the three calls lend, and the guest's hand in it: a queue on a ring page,
+ * grants of every kind, a window, a frame buffer, and a report between two words that must not be
+ * written.
  */
 #ifndef LENT_H
 #define LENT_H

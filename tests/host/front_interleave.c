@@ -1,7 +1,7 @@
 /*
  * The backend acts at every point of a driver's call. It must see nothing of a packet or all of it,
- * each reply is read once, and no order may leave one side asleep with work to do and no notification
- * under way.
+ * each reply is read once, and no order may leave one side asleep with work to do and no
+ * notification under way.
  */
 #include <stdbool.h>
 #include <stdint.h>

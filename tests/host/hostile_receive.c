@@ -130,7 +130,7 @@ static void run_guest(void)
 
 /* The host. */
 
-/* A word of the reply to request n, in the private page: the guest may have written over its own. */
+/* A word of the reply to request n, of the private page: the guest may have changed its own. */
 static uint32_t reply_word(uint32_t n, uint32_t word)
 {
     return private_word(host.ring.page, ring_slot(RECEIVE_SLOT_WORDS, n) + word);

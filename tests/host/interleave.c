@@ -1,6 +1,6 @@
 /*
- * The guest acts at every point of a host's call. No order may leave one side asleep with work to do
- * and no notification under way.
+ * The guest acts at every point of a host's call. No order may leave one side asleep with work to
+ * do and no notification under way.
  */
 #include <stdbool.h>
 #include <stdint.h>

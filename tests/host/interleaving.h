@@ -3,9 +3,10 @@
  * other: before each access that the call makes to the ring page, and between the moments at which
  * its stores get there.
  *
- * Each case runs with three kinds of arrival: the caller's stores reach the page at once; or as late
- * as its barriers allow (as on x86, where a store may pass a later load); or late and out of order,
- * and slots are loaded as early as its barriers allow (as on ARM). So a missing barrier fails here.
+ * Each case runs with three kinds of arrival: the caller's stores reach the page at once; or as
+ * late as its barriers allow (as on x86, where a store may pass a later load); or late and out of
+ * order, and slots are loaded as early as its barriers allow (as on ARM). So a missing barrier
+ * fails here.
  *
  * To be included before the ring's source, whose atomic operations are then those of this file.
  */

@@ -51,8 +51,8 @@ bool run_ended_well(const struct run *run)
 {
     const struct host_side *host = &run->host;
 
-    printf("%" PRIu64 " unexpected answers to the host; guest slept %" PRIu64 " times, host %" PRIu64
-           "; %s\n", host->unexpected, run->to_guest.sleeps, host->events.sleeps,
+    printf("%" PRIu64 " unexpected answers to the host; guest slept %" PRIu64 " times, host %"
+           PRIu64 "; %s\n", host->unexpected, run->to_guest.sleeps, host->events.sleeps,
            run->to_guest.stalled ? "the guest stalled" :
            host->events.stalled ? "the host stalled" : "no stall");
     return host_goes_on(host) && !run->to_guest.stalled;
