@@ -37,7 +37,7 @@ void run_open(struct run *run, int argc, char **argv, bool plain);
 /* A number from 1 to most. */
 uint32_t run_pick(struct run *run, uint32_t most);
 
-/* What the host does with a call's report: notifies the guest, and as host_is_done. */
+/* Notifies the guest if the report of the host's call says so; then as host_is_done. */
 bool run_is_done(struct run *run, const struct tollmeander_report *report, bool may_sleep);
 
 /* The host of a transmit ring: takes packets until the device has got all. */
