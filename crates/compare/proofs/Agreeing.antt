@@ -3,10 +3,13 @@ use mathlib.Core.Path.{_≡_, refl, sym, ap, _∙_}
 use mathlib.Core.List.{List}
 use Prim.Native.Nat.{ℕ}
 use borrow.Author.Tests.{eq-eqb}
+use Rattle.division.specs.Answer.{numberOf}
 use Rattle.division.specs.Compare.{countOf, comparedOf}
+use Rattle.division.specs.declared.Divided.{Divided}
+use Rattle.division.specs.declared.Divided.the-variants as divided
 use Rattle.division.specs.declared.Compared.{Compared}
-use Rattle.compare.specs.Answer.{endNumber}
-use Rattle.compare.specs.Tally.{sameOf, Nothing, Together, Counted, Agreeing}
+use Rattle.compare.specs.Answer.{sameOf, alikeOf}
+use Rattle.compare.specs.Tally.{Nothing, Together, Counted, Agreeing}
 use Rattle.compare.specs.declared.tally.Tally.{Tally}
 
 pub nothing-agrees : {r : Tally} → Nothing r → Agreeing r
@@ -23,9 +26,14 @@ together-agrees a b t = record {
   alike = t .alike ∙ rw (a .alike, b .alike) (sym (t .runs));
 }
 
--- a number is the same as itself
-same-self : (a : ℕ) → sameOf a a ≡ 1
-same-self a = rw (eq-eqb a a refl)
+-- an answer ends like itself
+same-self : (n : ℕ) → sameOf n n ≡ 1
+same-self n = rw (eq-eqb n n refl)
+
+alike-self : (a : Divided) → alikeOf a a ≡ 1
+alike-self divided.Uneven = refl
+alike-self divided.TooLong = refl
+alike-self (divided.Cut r) = same-self (numberOf (r .ending))
 
 pub counted-agrees : (bytes : List ℕ) (slots : ℕ) (compared : Compared) {r : Tally} → compared ≡ comparedOf bytes → Counted slots compared r → Agreeing r
 unfolding comparedOf
@@ -35,5 +43,5 @@ counted-agrees bytes slots compared e c =
     record {
       cuts = c .fast ∙ ap countOf fast ∙ sym (c .slow);
       agreed = c .agreed ∙ agreed ∙ sym (c .slow);
-      alike = c .alike ∙ ap (λ x. sameOf (endNumber (compared .slow)) (endNumber x)) fast ∙ same-self (endNumber (compared .slow)) ∙ sym (c .runs);
+      alike = c .alike ∙ ap (alikeOf (compared .slow)) fast ∙ alike-self (compared .slow) ∙ sym (c .runs);
     }

@@ -1,20 +1,15 @@
 -- What is counted of the comparisons.
 use mathlib.Core.Path.{_≡_}
-use mathlib.Core.Bool.{cond}
 use Prim.Native.Nat.{ℕ, _+_, _%_, _^_}
-use lib.Dec.{eqb}
 use Rattle.division.specs.Compare.{countOf}
+use Rattle.division.specs.declared.Ending.the-variants as ending
 use Rattle.division.specs.declared.Compared.{Compared}
-use Rattle.compare.specs.Answer.{endNumber}
+use Rattle.compare.specs.Answer.{restOf, unevenOf, tooLongOf, alikeOf}
 use Rattle.compare.specs.declared.tally.Tally.{Tally}
 
 -- counts of 64 bits wrap
 abbrev pub sumOf : ℕ → ℕ → ℕ
 sumOf a b = (a + b) % 2 ^ 64
-
--- 1 where two numbers are the same, and else 0
-abbrev pub sameOf : ℕ → ℕ → ℕ
-sameOf a b = cond (eqb a b) 1 0
 
 -- nothing counted
 pub record Nothing (r : Tally) : Type 0 where
@@ -51,12 +46,12 @@ pub record Counted (slots : ℕ) (compared : Compared) (r : Tally) : Type 0 wher
   pub slow : r .slow ≡ countOf (compared .slow)
   pub fast : r .fast ≡ countOf (compared .fast)
   pub agreed : r .agreed ≡ compared .agreed
-  pub alike : r .alike ≡ sameOf (endNumber (compared .slow)) (endNumber (compared .fast))
-  pub empty : r .empty ≡ sameOf (endNumber (compared .slow)) 0
-  pub waiting : r .waiting ≡ sameOf (endNumber (compared .slow)) 1
-  pub misshapen : r .misshapen ≡ sameOf (endNumber (compared .slow)) 2
-  pub uneven : r .uneven ≡ sameOf (endNumber (compared .slow)) 3
-  pub tooLong : r .«too_long» ≡ sameOf (endNumber (compared .slow)) 4
+  pub alike : r .alike ≡ alikeOf (compared .slow) (compared .fast)
+  pub empty : r .empty ≡ restOf (compared .slow) ending.Empty
+  pub waiting : r .waiting ≡ restOf (compared .slow) ending.Waiting
+  pub misshapen : r .misshapen ≡ restOf (compared .slow) ending.Misshapen
+  pub uneven : r .uneven ≡ unevenOf (compared .slow)
+  pub tooLong : r .«too_long» ≡ tooLongOf (compared .slow)
 
 -- both readers agreed throughout: as many cuts by each, all of them agreed, and every run ended alike
 pub record Agreeing (r : Tally) : Type 0 where

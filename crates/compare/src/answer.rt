@@ -1,40 +1,65 @@
-// How a reader's answer ends, as a number: the rest of the run, or the refusal of its bytes.
+// How a reader's answer ends, counted: each function gives 1 for yes and 0 for no.
 ghost use mathlib.Core.Path.{_≡_};
-ghost use Rattle.compare.specs.Answer.{restNumber, endNumber};
+ghost use Rattle.compare.specs.Answer.{sameOf, restOf, unevenOf, tooLongOf, alikeOf};
 use division::Divided;
 use division::Ending;
 
-pub const EMPTY: u32 = 0;
-
-pub const WAITING: u32 = 1;
-
-pub const MISSHAPEN: u32 = 2;
-
-pub const UNEVEN: u32 = 3;
-
-pub const TOO_LONG: u32 = 4;
-
-// The number of a rest.
-fn rest(ending: Ending) -> u32
-    ensures { λ r. ⌜ r ≡ restNumber ending ⌝ }
+// Whether two numbers are the same.
+fn same(a: u32, b: u32) -> usize
+    ensures { λ r. ⌜ r ≡ sameOf a b ⌝ }
 {
-    match ending {
-        Ending::Empty => EMPTY,
-        Ending::Waiting => WAITING,
-        Ending::Misshapen => MISSHAPEN,
+    if a == b {
+        return 1;
     }
+    0
 }
 
-// The number of an answer's end.
-pub fn end(answer: Divided) -> u32
-    ensures { λ r. ⌜ r ≡ endNumber answer ⌝ }
+// Whether the rest of a division is of this kind, by document 01's numbers.
+pub fn rest(answer: Divided, kind: Ending) -> usize
+    ensures { λ r. ⌜ r ≡ restOf answer kind ⌝ }
 {
     match answer {
         Divided::Cut(cuts) => {
             let ending = cuts.ending;
-            rest(ending)
+            same(division::number_of(ending), division::number_of(kind))
         }
-        Divided::Uneven => UNEVEN,
-        Divided::TooLong => TOO_LONG,
+        Divided::Uneven => 0,
+        Divided::TooLong => 0,
+    }
+}
+
+// Whether the bytes are no whole number of slots.
+pub fn uneven(answer: Divided) -> usize
+    ensures { λ r. ⌜ r ≡ unevenOf answer ⌝ }
+{
+    match answer {
+        Divided::Uneven => 1,
+        Divided::TooLong => 0,
+        Divided::Cut(_) => 0,
+    }
+}
+
+// Whether there are too many slots.
+pub fn too_long(answer: Divided) -> usize
+    ensures { λ r. ⌜ r ≡ tooLongOf answer ⌝ }
+{
+    match answer {
+        Divided::TooLong => 1,
+        Divided::Uneven => 0,
+        Divided::Cut(_) => 0,
+    }
+}
+
+// Whether two answers end alike.
+pub fn alike(a: Divided, b: Divided) -> usize
+    ensures { λ r. ⌜ r ≡ alikeOf a b ⌝ }
+{
+    match a {
+        Divided::Uneven => uneven(b),
+        Divided::TooLong => too_long(b),
+        Divided::Cut(cuts) => {
+            let ending = cuts.ending;
+            rest(b, ending)
+        }
     }
 }

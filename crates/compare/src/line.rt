@@ -1,7 +1,8 @@
 // The printed lines, written field by field.
-use crate::answer;
 use crate::tally::Tally;
 use division::Compared;
+use division::Divided;
+use division::Ending;
 use libc::STDOUT_FILENO;
 
 // Bytes as they are.
@@ -15,14 +16,24 @@ fn number(label: &[u8], n: usize) {
     io::print_decimal(STDOUT_FILENO, n as u64);
 }
 
-// The name of an answer's end.
-fn end(n: u32) {
-    match n {
-        0 => text(b" empty"),
-        1 => text(b" waiting"),
-        2 => text(b" misshapen"),
-        3 => text(b" uneven"),
-        _ => text(b" too-long"),
+// The name of a rest.
+fn rest(ending: Ending) {
+    match ending {
+        Ending::Empty => text(b" empty"),
+        Ending::Waiting => text(b" waiting"),
+        Ending::Misshapen => text(b" misshapen"),
+    }
+}
+
+// How an answer ends: its rest, or why it was refused.
+fn end(answer: Divided) {
+    match answer {
+        Divided::Cut(cuts) => {
+            let ending = cuts.ending;
+            rest(ending)
+        }
+        Divided::Uneven => text(b" uneven"),
+        Divided::TooLong => text(b" too-long"),
     }
 }
 
@@ -36,8 +47,8 @@ pub fn page(name: &[u8], slots: usize, compared: Compared) {
     number(b" fast ", division::count_of(fast));
     number(b" agreed ", compared.agreed);
     text(b" ends");
-    end(answer::end(slow));
-    end(answer::end(fast));
+    end(slow);
+    end(fast);
     text(b"\n");
 }
 

@@ -1,8 +1,9 @@
 // What is counted of the comparisons.
 ghost use mathlib.Core.Path.{_≡_};
-ghost use Rattle.compare.specs.Tally.{sumOf, sameOf, Nothing, Together, Counted};
+ghost use Rattle.compare.specs.Tally.{sumOf, Nothing, Together, Counted};
 use crate::answer;
 use division::Compared;
+use division::Ending;
 
 // Runs, their whole slots, the cuts of each reader, how many agreed, how many runs ended alike, and how many ended in each way by
 // the slow reader.
@@ -65,34 +66,23 @@ pub fn plus(a: Tally, b: Tally) -> Tally
     }
 }
 
-// 1 where two ends are the same, and else 0.
-fn same(a: u32, b: u32) -> usize
-    ensures { λ r. ⌜ r ≡ sameOf a b ⌝ }
-{
-    if a == b {
-        return 1;
-    }
-    0
-}
-
 // What is counted of one comparison.
 pub fn of(slots: usize, compared: Compared) -> Tally
     ensures { λ r. ⌜ Counted slots compared r ⌝ }
 {
     let slow = compared.slow;
     let fast = compared.fast;
-    let end = answer::end(slow);
     Tally {
         runs: 1,
         slots,
         slow: division::count_of(slow),
         fast: division::count_of(fast),
         agreed: compared.agreed,
-        alike: same(end, answer::end(fast)),
-        empty: same(end, answer::EMPTY),
-        waiting: same(end, answer::WAITING),
-        misshapen: same(end, answer::MISSHAPEN),
-        uneven: same(end, answer::UNEVEN),
-        too_long: same(end, answer::TOO_LONG),
+        alike: answer::alike(slow, fast),
+        empty: answer::rest(slow, Ending::Empty),
+        waiting: answer::rest(slow, Ending::Waiting),
+        misshapen: answer::rest(slow, Ending::Misshapen),
+        uneven: answer::uneven(slow),
+        too_long: answer::too_long(slow),
     }
 }

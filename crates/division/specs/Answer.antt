@@ -30,6 +30,12 @@ EndsAs rest ending.Empty = rest ≡ []
 EndsAs rest ending.Waiting = (rest ≢ []) × BeginsProperly rest
 EndsAs rest ending.Misshapen = Begins rest → ⊥
 
+-- the number that document 01 gives such a rest, as the answer of a call that finds it
+abbrev pub numberOf : Ending → ℕ
+numberOf ending.Empty = 4
+numberOf ending.Waiting = 6
+numberOf ending.Misshapen = 5
+
 -- the division of a run (document 01: its leading packets and the rest): how many packets there are and what the rest is, and in the
 -- table each packet's number of slots
 pub record CutAs (run : List Slot) (before after : List ℕ) (r : Cuts) : Type 0 where

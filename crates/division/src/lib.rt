@@ -5,6 +5,7 @@ pub mod slow;
 
 ghost use mathlib.Core.Path.{_≡_};
 ghost use Prim.Native.Nat.{_≤_};
+ghost use Rattle.division.specs.Answer.{numberOf};
 ghost use Rattle.division.specs.Compare.{countOf, agreeing, comparedOf};
 
 // What the rest of a run is: nothing, a proper beginning of a packet, or the beginning of none.
@@ -41,6 +42,17 @@ pub struct Compared {
     pub slow: Divided,
     pub fast: Divided,
     pub agreed: usize,
+}
+
+// Document 01's number of a rest.
+pub fn number_of(ending: Ending) -> u32
+    ensures { λ r. ⌜ r ≡ numberOf ending ⌝ }
+{
+    match ending {
+        Ending::Empty => 4,
+        Ending::Waiting => 6,
+        Ending::Misshapen => 5,
+    }
 }
 
 // The number of packets that an answer has.

@@ -1,7 +1,7 @@
--- `tally::same` meets its contract: its test is the definition's.
+-- `answer::same` meets its contract: its test is the definition's.
 use borrow.Author.Tests.{eq-eqb, ne-eqb}
-use Rattle.compare.proofs.tally.same.Statement.{statement}
-use Rattle.compare.proofs.tally.same.Tie as tie
+use Rattle.compare.proofs.answer.same.Statement.{statement}
+use Rattle.compare.proofs.answer.same.Tie as tie
 
 returns : tie.Need-returns
 returns c = rw (eq-eqb _ _ (c .if1 .taken))
