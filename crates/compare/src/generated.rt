@@ -5,6 +5,7 @@ use crate::made;
 use crate::made::Setting;
 use crate::tally;
 use crate::tally::Tally;
+use netif::DataSlot;
 
 // The runs of a setting.
 const RUNS: u32 = 512;
@@ -16,7 +17,7 @@ fn run(number: u32, setting: Setting) -> Tally
     let mut room = [0u8; 3084];
     let n = made::make(number, setting, &mut room);
     let run = &room[..n];
-    tally::of(n / 12, division::compare(run))
+    tally::of(n / DataSlot::WIDTH, division::compare(run))
 }
 
 // The comparison on all runs of a setting, which are numbered from a first number on.

@@ -3,10 +3,10 @@ ghost use mathlib.Core.Path.{_≡_};
 ghost use mathlib.Core.Bool.{cond};
 ghost use Prim.Native.Nat.{_+_, _*_, _/_, _%_, _≤_};
 ghost use lib.ListN.{length};
+ghost use Rattle.netif.specs.Slot.{slotWidth, slotCount};
 ghost use Rattle.io.specs.Counts.{Counts};
 use crate::draw;
-
-const WIDTH: usize = 12;
+use netif::DataSlot;
 
 // The most later data slots and extras of a packet, and of how many slots in 256 the bytes stay as drawn.
 pub struct Setting {
@@ -48,7 +48,7 @@ fn extra_flags(drawn: u8, another: bool) -> u8
 
 // Draws a slot's bytes, of which the first is at most 3; the number drawn last.
 fn put_drawn(run: &mut [u8], at: usize, x: u32) -> u32
-    requires { ⌜ at + 12 ≤ length (now run) ⌝ }
+    requires { ⌜ at + slotWidth ≤ length (now run) ⌝ }
 {
     let a = draw::next(x);
     let b = draw::next(a);
@@ -61,7 +61,7 @@ fn put_drawn(run: &mut [u8], at: usize, x: u32) -> u32
 
 // Makes a drawn slot a data slot.
 fn put_data(run: &mut [u8], at: usize, more: bool, extra: bool)
-    requires { ⌜ at + 12 ≤ length (now run) ⌝ }
+    requires { ⌜ at + slotWidth ≤ length (now run) ⌝ }
 {
     let drawn = run[at + 6];
     run[at + 6] = data_flags(drawn, more, extra);
@@ -69,7 +69,7 @@ fn put_data(run: &mut [u8], at: usize, more: bool, extra: bool)
 
 // Makes a drawn slot an extra of type 1.
 fn put_extra(run: &mut [u8], at: usize, another: bool)
-    requires { ⌜ at + 12 ≤ length (now run) ⌝ }
+    requires { ⌜ at + slotWidth ≤ length (now run) ⌝ }
 {
     let drawn = run[at + 1];
     run[at] = 1;
@@ -89,7 +89,7 @@ fn packet(x: u32, setting: Setting) -> Due {
 
 // Makes a drawn slot the next one of its packet, or a new packet's first where the packet owes none.
 fn put_next(run: &mut [u8], at: usize, due: Due, sound: bool, setting: Setting) -> Due
-    requires { ⌜ at + 12 ≤ length (now run) ⌝ }
+    requires { ⌜ at + slotWidth ≤ length (now run) ⌝ }
 {
     if 0 < due.extras {
         let extras = due.extras - 1;
@@ -122,9 +122,9 @@ fn put_next(run: &mut [u8], at: usize, due: Due, sound: bool, setting: Setting) 
 
 // Lays slot i: its bytes are drawn, then whether they stay, and else they are made the next slot.
 fn put_slot(run: &mut [u8], i: usize, due: Due, setting: Setting) -> Due
-    requires { ⌜ 12 * i + 12 ≤ length (now run) ⌝ }
+    requires { ⌜ slotWidth * i + slotWidth ≤ length (now run) ⌝ }
 {
-    let at = WIDTH * i;
+    let at = DataSlot::WIDTH * i;
     let x = draw::next(put_drawn(run, at, due.drawn));
     let sound = setting.flaws <= x % 256;
     let owed = Due {
@@ -137,7 +137,7 @@ fn put_slot(run: &mut [u8], i: usize, due: Due, setting: Setting) -> Due
 
 // Lays so many slots.
 fn put_slots(run: &mut [u8], slots: usize, x: u32, setting: Setting)
-    requires { ⌜ 12 * slots ≤ length (now run) ⌝ }
+    requires { ⌜ slotWidth * slots ≤ length (now run) ⌝ }
 {
     let mut due = Due {
         drawn: x,
@@ -153,13 +153,13 @@ fn put_slots(run: &mut [u8], slots: usize, x: u32, setting: Setting)
 
 // The bytes of a run by its number: of sixteen runs one has no slot, one 256, one 257 and one a part of a slot at its end.
 fn bytes(number: u32, x: u32) -> usize
-    ensures { λ r. ⌜ r ≤ 3084 ⌝ }
+    ensures { λ r. ⌜ r ≤ slotWidth * (slotCount + 1) ⌝ }
 {
-    let drawn = WIDTH * ((x % 257) as usize);
+    let drawn = DataSlot::WIDTH * ((x % (DataSlot::COUNT + 1)) as usize);
     match number % 16 {
         0 => 0,
-        1 => 3072,
-        2 => 3084,
+        1 => DataSlot::WIDTH * (DataSlot::COUNT as usize),
+        2 => DataSlot::WIDTH * (DataSlot::COUNT as usize + 1),
         3 => drawn + 1 + (x % 11) as usize,
         _ => drawn,
     }
@@ -167,11 +167,11 @@ fn bytes(number: u32, x: u32) -> usize
 
 // Lays a run at the front of a buffer; its number of bytes.
 pub fn make(number: u32, setting: Setting, run: &mut [u8]) -> usize
-    requires { ⌜ length (now run) ≡ 3084 ⌝ }
+    requires { ⌜ length (now run) ≡ slotWidth * (slotCount + 1) ⌝ }
     ensures { λ r. ⌜ Counts r (now (run .exit)) ⌝ }
 {
     let x = draw::first(number);
     let n = bytes(number, x);
-    put_slots(run, n / WIDTH, x, setting);
+    put_slots(run, n / DataSlot::WIDTH, x, setting);
     n
 }

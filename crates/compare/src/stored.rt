@@ -12,10 +12,6 @@ use crate::tally;
 use crate::tally::Tally;
 use netif::DataSlot;
 
-const WIDTH: usize = 12;
-
-const MOST: u32 = 256;
-
 const RSP_PROD: usize = 8;
 
 // The counter at which a stored ring was left: all slots consumed have their replies.
@@ -27,12 +23,12 @@ fn counter(page: &[u8; 4096]) -> u32
 
 // Copies slot n of a page to slot i of a run.
 fn take_slot(page: &[u8], n: u32, run: &mut [u8], i: usize)
-    requires { ⌜ (length (now page) ≡ pageSize) × (i < 256) × (length (now run) ≡ 3072) ⌝ }
+    requires { ⌜ (length (now page) ≡ pageSize) × (i < slotCount) × (length (now run) ≡ slotWidth * slotCount) ⌝ }
     ensures { λ _. ⌜
-        now (run .exit) ≡ splice (now (run .entry)) (12 * i) (slotAt slotWidth slotCount (now (page .entry)) n) ⌝ }
+        now (run .exit) ≡ splice (now (run .entry)) (slotWidth * i) (slotAt slotWidth slotCount (now (page .entry)) n) ⌝ }
 {
-    let a = WIDTH * i;
-    let b = a + WIDTH;
+    let a = DataSlot::WIDTH * i;
+    let b = a + DataSlot::WIDTH;
     words::copy(
         ring::slot(page, DataSlot::WIDTH, DataSlot::COUNT, n),
         &mut run[a..b],
@@ -41,7 +37,7 @@ fn take_slot(page: &[u8], n: u32, run: &mut [u8], i: usize)
 
 // Copies so many slots of a page, from a counter on, to the front of a run.
 fn take(page: &[u8], from: u32, slots: u32, run: &mut [u8])
-    requires { ⌜ (length (now page) ≡ pageSize) × (slots ≤ 256) × (length (now run) ≡ 3072) ⌝ }
+    requires { ⌜ (length (now page) ≡ pageSize) × (slots ≤ slotCount) × (length (now run) ≡ slotWidth * slotCount) ⌝ }
     ensures { λ _. ⌜ Taken (now (page .entry)) from slots (now (run .exit)) ⌝ }
 {
     let mut k: u32 = 0;
@@ -68,7 +64,7 @@ fn load(name: &[u8], page: &mut [u8; 4096]) -> bool {
 fn compare_run(name: &[u8], run: &[u8]) -> Tally
     ensures { λ r. ⌜ Agreeing r ⌝ }
 {
-    let slots = run.len() / WIDTH;
+    let slots = run.len() / DataSlot::WIDTH;
     let compared = division::compare(run);
     line::page(name, slots, compared);
     tally::of(slots, compared)
@@ -80,13 +76,13 @@ fn compare_page(name: &[u8], page: &[u8; 4096]) -> Tally
 {
     let from = counter(page);
     let posted = ring::posted(page, from);
-    if MOST < posted {
+    if DataSlot::COUNT < posted {
         line::refused(name, b" overflow\n");
         return tally::none();
     }
     let mut run = [0u8; 3072];
     take(page, from, posted, &mut run);
-    let n = WIDTH * (posted as usize);
+    let n = DataSlot::WIDTH * (posted as usize);
     compare_run(name, &run[..n])
 }
 

@@ -7,10 +7,10 @@ use native.Mathlib.Omega.{arith}
 use lib.ListN.{length, getD, length-append}
 use borrow.Author.Tests.{eq-eqb, ne-eqb, le-leb, lt-leb}
 use Rattle.words.specs.Word.{splice}
-use Rattle.netif.specs.Slot.{Slot, slotWidth}
+use Rattle.netif.specs.Slot.{Slot, slotWidth, slotCount}
 use Rattle.netif.specs.Grammar.{Begins, BeginsProperly, NoneAtFront, AllPackets, joinAll}
 use Rattle.netif.proofs.Grammar.{packet-some, nothing-begins, beginning-iff, misshapen-iff, division-only}
-use Rattle.division.specs.Answer.{mostRun, EndsAs, CutAs, DividedAs}
+use Rattle.division.specs.Answer.{EndsAs, CutAs, DividedAs}
 use Rattle.division.specs.Fast.{endingOf, cutsOf, lengthsOf, dividedOf, tableOf}
 use Rattle.division.specs.Compare.{countOf, agreeing}
 use Rattle.division.specs.declared.Ending.{Ending}
@@ -63,7 +63,7 @@ few-packets : (ps : List (List Slot)) → AllPackets ps → length ps ≤ length
 few-packets [] h = omega arith
 few-packets (p ∷ ps) h = omega (arith, packet-some (h .0), few-packets ps (h .1), length-append p (joinAll ps))
 
-pub count-few : (bytes before after : List ℕ) (r : Divided) → DividedAs bytes before after r → countOf r ≤ mostRun
+pub count-few : (bytes before after : List ℕ) (r : Divided) → DividedAs bytes before after r → countOf r ≤ slotCount
 count-few bytes before after divided.Uneven h = omega arith
 count-few bytes before after divided.TooLong h = omega arith
 count-few bytes before after (divided.Cut r) h =

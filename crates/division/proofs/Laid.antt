@@ -12,21 +12,21 @@ use Rattle.ring.proofs.Ring.{slots-drop}
 use Rattle.netif.specs.Slot.{slotWidth, slotCount}
 use Rattle.division.specs.Run.{slotIn, slotsIn}
 
-module _ (page bytes : List ℕ) (size : length page ≡ pageSize) (short : length bytes ≤ 3072) where
-  pub slot-laid : (i : ℕ) → 12 * i + 12 ≤ length bytes → slotAt slotWidth slotCount (splice page 64 bytes) i ≡ slotIn bytes i
+module _ (page bytes : List ℕ) (size : length page ≡ pageSize) (short : length bytes ≤ slotWidth * slotCount) where
+  pub slot-laid : (i : ℕ) → slotWidth * i + slotWidth ≤ length bytes → slotAt slotWidth slotCount (splice page 64 bytes) i ≡ slotIn bytes i
   unfolding slotAt slotPlace slotIn splice
   slot-laid i h =
       let behind = drop (64 + length bytes) page in
       let laid = take 64 page ++ bytes ++ behind in
-      let e : i % 256 ≡ i = omega arith in
-      ap (λ (n : ℕ). take 12 (drop (64 + 12 * n) laid)) e
-      ∙ ap (take 12) (sym (drop-drop (12 * i) 64 laid))
-      ∙ ap (λ (l : List ℕ). take 12 (drop (12 * i) (drop 64 l))) (append-assoc (take 64 page) bytes behind)
-      ∙ ap (λ (l : List ℕ). take 12 (drop (12 * i) l)) (drop-at (take 64 page) (bytes ++ behind) 64 (length-take-le 64 page (omega arith)))
-      ∙ ap (take 12) (drop-append-le (12 * i) bytes behind (omega arith))
-      ∙ take-append-le 12 (drop (12 * i) bytes) behind (omega (arith, length-drop (12 * i) bytes))
+      let e : i % slotCount ≡ i = omega arith in
+      ap (λ (n : ℕ). take slotWidth (drop (64 + slotWidth * n) laid)) e
+      ∙ ap (take slotWidth) (sym (drop-drop (slotWidth * i) 64 laid))
+      ∙ ap (λ (l : List ℕ). take slotWidth (drop (slotWidth * i) (drop 64 l))) (append-assoc (take 64 page) bytes behind)
+      ∙ ap (λ (l : List ℕ). take slotWidth (drop (slotWidth * i) l)) (drop-at (take 64 page) (bytes ++ behind) 64 (length-take-le 64 page (omega arith)))
+      ∙ ap (take slotWidth) (drop-append-le (slotWidth * i) bytes behind (omega arith))
+      ∙ take-append-le slotWidth (drop (slotWidth * i) bytes) behind (omega (arith, length-drop (slotWidth * i) bytes))
 
-  pub slots-laid : (k i : ℕ) → 12 * (i + k) ≤ length bytes → slotsFrom slotWidth slotCount (splice page 64 bytes) i k ≡ slotsIn bytes i k
+  pub slots-laid : (k i : ℕ) → slotWidth * (i + k) ≤ length bytes → slotsFrom slotWidth slotCount (splice page 64 bytes) i k ≡ slotsIn bytes i k
   slots-laid zero i h = refl
   slots-laid (suc k) i h =
       let a : slotAt slotWidth slotCount (splice page 64 bytes) i ≡ slotIn bytes i = slot-laid i (omega arith) in

@@ -6,10 +6,11 @@ use native.Mathlib.Nat.{zero-add, add-zero, suc-add, add-suc}
 use native.Mathlib.Omega.{arith}
 use lib.ListN.{length, take, drop, length-take, length-drop}
 use lib.Seq.{take-at, drop-at}
+use Rattle.netif.specs.Slot.{slotWidth}
 use Rattle.division.specs.Run.{slotIn, slotsIn}
 
 module _ (bytes : List ℕ) where
-  pub slot-length : (i : ℕ) → 12 * i + 12 ≤ length bytes → length (slotIn bytes i) ≡ 12
+  pub slot-length : (i : ℕ) → slotWidth * i + slotWidth ≤ length bytes → length (slotIn bytes i) ≡ slotWidth
   unfolding slotIn
   slot-length i h = simp (length-take, length-drop) (omega arith)
 

@@ -6,7 +6,7 @@ use mathlib.Core.Bool.{true}
 use Prim.Native.Nat.{ℕ, suc, _+_, _/_, _%_, _≤_, _<_}
 use lib.ListN.{length, take}
 use Rattle.words.specs.Word.{splice}
-use Rattle.netif.specs.Slot.{Slot, slotWidth}
+use Rattle.netif.specs.Slot.{Slot, slotWidth, slotCount}
 use Rattle.netif.specs.Grammar.{within, Packet, Begins, BeginsProperly, NoneAtFront, Division}
 use Rattle.division.specs.Run.{runOf}
 use Rattle.division.specs.Shape.{shaped}
@@ -19,10 +19,6 @@ use Rattle.division.specs.declared.Divided.{Divided}
 use Rattle.division.specs.declared.Divided.the-variants as divided
 use Rattle.division.specs.declared.slow.Asked.{Asked}
 use Rattle.division.specs.declared.slow.Asked.the-variants as asked
-
--- the most slots of a run
-abbrev pub mostRun : ℕ
-mostRun = 256
 
 -- what is left of a run (document 01: the rest): nothing, a nonempty proper beginning of a packet, or the beginning of none
 abbrev pub EndsAs : List Slot → Ending → Type 0
@@ -49,8 +45,8 @@ pub record CutAs (run : List Slot) (before after : List ℕ) (r : Cuts) : Type 0
 -- the answer for bytes lent as a run; a refusal leaves the table
 abbrev pub DividedAs : List ℕ → (before after : List ℕ) → Divided → Type 0
 DividedAs bytes before after divided.Uneven = (length bytes % slotWidth ≢ 0) × (after ≡ before)
-DividedAs bytes before after divided.TooLong = (length bytes % slotWidth ≡ 0) × (mostRun < length bytes / slotWidth) × (after ≡ before)
-DividedAs bytes before after (divided.Cut r) = (length bytes % slotWidth ≡ 0) × (length bytes / slotWidth ≤ mostRun) × CutAs (runOf bytes) before after r
+DividedAs bytes before after divided.TooLong = (length bytes % slotWidth ≡ 0) × (slotCount < length bytes / slotWidth) × (after ≡ before)
+DividedAs bytes before after (divided.Cut r) = (length bytes % slotWidth ≡ 0) × (length bytes / slotWidth ≤ slotCount) × CutAs (runOf bytes) before after r
 
 -- ---- the stages
 

@@ -5,10 +5,9 @@ use Prim.Native.Nat.{ℕ, _/_, _%_}
 use lib.ListN.{length}
 use lib.Dec.{eqb, leb}
 use Rattle.words.specs.Word.{splice}
-use Rattle.netif.specs.Slot.{Slot, slotWidth}
+use Rattle.netif.specs.Slot.{Slot, slotWidth, slotCount}
 use Rattle.netif.specs.Divide.{divide, onCut, packetsOf, restOf}
 use Rattle.division.specs.Run.{runOf}
-use Rattle.division.specs.Answer.{mostRun}
 use Rattle.division.specs.declared.Ending.{Ending}
 use Rattle.division.specs.declared.Ending.the-variants as ending
 use Rattle.division.specs.declared.Cuts.{Cuts}
@@ -29,7 +28,7 @@ lengthsOf run = map length (packetsOf run)
 
 -- the answer for bytes lent as a run, and what it leaves of a table; a refusal leaves the table
 abbrev pub byLength : {A : Type 0} → List ℕ → A → A → A → A
-byLength bytes uneven long good = cond (eqb (length bytes % slotWidth) 0) (cond (leb (length bytes / slotWidth) mostRun) good long) uneven
+byLength bytes uneven long good = cond (eqb (length bytes % slotWidth) 0) (cond (leb (length bytes / slotWidth) slotCount) good long) uneven
 
 unfoldable pub dividedOf : List ℕ → Divided
 dividedOf bytes = byLength bytes divided.Uneven divided.TooLong (divided.Cut (cutsOf (runOf bytes)))

@@ -1,6 +1,6 @@
 // The fast reader: the run is laid on a ring page, and netif's divider reads packet by packet off it.
 ghost use mathlib.Core.Path.{_≡_};
-ghost use Prim.Native.Nat.{_≤_};
+ghost use Prim.Native.Nat.{_*_, _≤_};
 ghost use lib.ListN.{length};
 ghost use Rattle.words.specs.Word.{splice};
 ghost use Rattle.ring.specs.Ring.{pageSize, slotsFrom};
@@ -11,18 +11,15 @@ use crate::Cuts;
 use crate::Divided;
 use crate::Ending;
 use crate::Step;
+use netif::DataSlot;
 use netif::divider::Front;
-
-const WIDTH: usize = 12;
-
-const MOST: usize = 256;
 
 // Where a ring page's first slot stands.
 const FIRST: usize = 64;
 
 // Lays a run on a ring page, from the first slot on.
 fn lay(run: &[u8], page: &mut [u8])
-    requires { ⌜ (length (now run) ≤ 3072) × (length (now page) ≡ pageSize) ⌝ }
+    requires { ⌜ (length (now run) ≤ slotWidth * slotCount) × (length (now page) ≡ pageSize) ⌝ }
     ensures { λ _. ⌜ now (page .exit) ≡ splice (now (page .entry)) 64 (now (run .entry)) ⌝ }
 {
     let end = FIRST + run.len();
@@ -31,7 +28,7 @@ fn lay(run: &[u8], page: &mut [u8])
 
 // What stands at the front of the slots that are left on a page.
 fn front(page: &[u8], at: u32, left: u32) -> Step
-    requires { ⌜ (length (now page) ≡ pageSize) × (1 ≤ left) × (left ≤ 256) ⌝ }
+    requires { ⌜ (length (now page) ≡ pageSize) × (1 ≤ left) × (left ≤ slotCount) ⌝ }
     ensures { λ r. ⌜ StepIs (slotsFrom slotWidth slotCount (now (page .entry)) at left) r ⌝ }
 {
     let mut sizes = [0u16; 18];
@@ -45,7 +42,7 @@ fn front(page: &[u8], at: u32, left: u32) -> Step
 
 // Cuts packets off the front of the slots on a page as long as one stands there.
 fn cut(page: &[u8], slots: usize, cuts: &mut [usize; 256]) -> Cuts
-    requires { ⌜ (length (now page) ≡ pageSize) × (slots ≤ 256) × (length (now cuts) ≡ 256) ⌝ }
+    requires { ⌜ (length (now page) ≡ pageSize) × (slots ≤ slotCount) × (length (now cuts) ≡ slotCount) ⌝ }
     ensures { λ r. ⌜
         CutAs (slotsFrom slotWidth slotCount (now (page .entry)) 0 slots) (now (cuts .entry)) (now (cuts .exit)) r ⌝ }
 {
@@ -70,16 +67,16 @@ fn cut(page: &[u8], slots: usize, cuts: &mut [usize; 256]) -> Cuts
 
 // The division of a run, 12 bytes a slot. The table gets each packet's number of slots, in order; its other places stay.
 pub fn divide(run: &[u8], cuts: &mut [usize; 256]) -> Divided
-    requires { ⌜ length (now cuts) ≡ 256 ⌝ }
+    requires { ⌜ length (now cuts) ≡ slotCount ⌝ }
     ensures { λ r. ⌜
         (r ≡ dividedOf (now (run .entry))) × (now (cuts .exit) ≡ tableOf (now (run .entry)) (now (cuts .entry))) ⌝ }
 {
     let n = run.len();
-    if n % WIDTH != 0 {
+    if n % DataSlot::WIDTH != 0 {
         return Divided::Uneven;
     }
-    let slots = n / WIDTH;
-    if MOST < slots {
+    let slots = n / DataSlot::WIDTH;
+    if (DataSlot::COUNT as usize) < slots {
         return Divided::TooLong;
     }
     let mut page = [0u8; 4096];

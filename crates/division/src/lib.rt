@@ -5,6 +5,7 @@ pub mod slow;
 
 ghost use mathlib.Core.Path.{_≡_};
 ghost use Prim.Native.Nat.{_≤_};
+ghost use Rattle.netif.specs.Slot.{slotCount};
 ghost use Rattle.division.specs.Answer.{numberOf};
 ghost use Rattle.division.specs.Compare.{countOf, agreeing, comparedOf};
 
@@ -68,7 +69,7 @@ pub fn count_of(answer: Divided) -> usize
 
 // At how many of the first n places two tables are the same.
 fn agreed(n: usize, a: &[usize; 256], b: &[usize; 256]) -> usize
-    requires { ⌜ n ≤ 256 ⌝ }
+    requires { ⌜ n ≤ slotCount ⌝ }
     ensures { λ r. ⌜ r ≡ agreeing n (now (a .entry)) (now (b .entry)) ⌝ }
 {
     let mut same: usize = 0;

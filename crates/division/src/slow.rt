@@ -3,6 +3,7 @@ ghost use mathlib.Core.Path.{_≡_};
 ghost use mathlib.Core.Bool.{cond, not};
 ghost use Prim.Native.Nat.{_+_, _*_, _≤_, _<_, min};
 ghost use lib.ListN.{length};
+ghost use Rattle.netif.specs.Slot.{slotWidth, slotCount};
 ghost use Rattle.division.specs.Run.{slotIn, slotsIn};
 ghost use Rattle.division.specs.Shape.{linkAt, begun, follows, shaped, rightOf, announcesOf};
 ghost use Rattle.division.specs.Answer.{AskedWith, AskedIs, StepIs, CutAs, DividedAs};
@@ -12,10 +13,6 @@ use crate::Ending;
 use crate::Step;
 use netif::DataSlot;
 use netif::Extra;
-
-const WIDTH: usize = 12;
-
-const MOST: usize = 256;
 
 // The most extras of a packet, and the most data slots behind its first.
 const EXTRAS: usize = 4;
@@ -37,11 +34,11 @@ pub enum Asked {
 
 // Slot i of a run: a part of it, not a copy.
 fn slot(run: &[u8], i: usize) -> &[u8]
-    requires { ⌜ 12 * i + 12 ≤ length (now run) ⌝ }
+    requires { ⌜ slotWidth * i + slotWidth ≤ length (now run) ⌝ }
     ensures { λ r. ⌜ now r ≡ slotIn (now (run .entry)) i ⌝ }
 {
-    let a = WIDTH * i;
-    let b = a + WIDTH;
+    let a = DataSlot::WIDTH * i;
+    let b = a + DataSlot::WIDTH;
     &run[a..b]
 }
 
@@ -57,7 +54,7 @@ fn alike(a: bool, b: bool) -> bool
 
 // Whether slot i of the run is right at place j of n slots of a kind: it announces another exactly if it is not the last.
 fn link(run: &[u8], i: usize, kind: Kind, j: usize, n: usize) -> bool
-    requires { ⌜ (12 * i + 12 ≤ length (now run)) × (j < 256) ⌝ }
+    requires { ⌜ (slotWidth * i + slotWidth ≤ length (now run)) × (j < slotCount) ⌝ }
     ensures { λ r. ⌜ r ≡ linkAt (rightOf kind) (announcesOf kind) n j (slotIn (now (run .entry)) i) ⌝ }
 {
     let b = slot(run, i);
@@ -82,7 +79,7 @@ fn link(run: &[u8], i: usize, kind: Kind, j: usize, n: usize) -> bool
 
 // Whether count slots of the run are the first of n slots of a kind.
 fn chain(run: &[u8], from: usize, count: usize, kind: Kind, n: usize) -> bool
-    requires { ⌜ (12 * (from + count) ≤ length (now run)) × (count ≤ 256) ⌝ }
+    requires { ⌜ (slotWidth * (from + count) ≤ length (now run)) × (count ≤ slotCount) ⌝ }
     ensures { λ r. ⌜ r ≡ begun (rightOf kind) (announcesOf kind) n 0 (slotsIn (now (run .entry)) from count) ⌝ }
 {
     let mut j: usize = 0;
@@ -107,7 +104,7 @@ fn smaller(a: usize, b: usize) -> usize
 
 // Whether slots behind the first are the first ones of so many extras and, behind them, so many later data slots.
 fn follow(run: &[u8], from: usize, count: usize, later: usize, extras: usize) -> bool
-    requires { ⌜ (12 * (from + count) ≤ length (now run)) × (count ≤ 256) ⌝ }
+    requires { ⌜ (slotWidth * (from + count) ≤ length (now run)) × (count ≤ slotCount) ⌝ }
     ensures { λ r. ⌜ r ≡ follows later extras (slotsIn (now (run .entry)) from count) ⌝ }
 {
     let seen = smaller(extras, count);
@@ -119,7 +116,7 @@ fn follow(run: &[u8], from: usize, count: usize, later: usize, extras: usize) ->
 
 // Whether n slots are the first ones of a packet of so many later data slots and extras.
 fn shaped(run: &[u8], at: usize, n: usize, later: usize, extras: usize) -> bool
-    requires { ⌜ (12 * (at + n) ≤ length (now run)) × (1 ≤ n) × (n ≤ 256) ⌝ }
+    requires { ⌜ (slotWidth * (at + n) ≤ length (now run)) × (1 ≤ n) × (n ≤ slotCount) ⌝ }
     ensures { λ r. ⌜ r ≡ shaped later extras (slotsIn (now (run .entry)) at n) ⌝ }
 {
     let head = DataSlot::decode(slot(run, at));
@@ -134,7 +131,7 @@ fn shaped(run: &[u8], at: usize, n: usize, later: usize, extras: usize) -> bool
 
 // What n slots are, by the packets with so many extras.
 fn ask_with(run: &[u8], at: usize, n: usize, extras: usize) -> Asked
-    requires { ⌜ (12 * (at + n) ≤ length (now run)) × (1 ≤ n) × (n ≤ 256) × (extras ≤ 4) ⌝ }
+    requires { ⌜ (slotWidth * (at + n) ≤ length (now run)) × (1 ≤ n) × (n ≤ slotCount) × (extras ≤ 4) ⌝ }
     ensures { λ r. ⌜ AskedWith extras (slotsIn (now (run .entry)) at n) r ⌝ }
 {
     let mut later: usize = 0;
@@ -153,7 +150,7 @@ fn ask_with(run: &[u8], at: usize, n: usize, extras: usize) -> Asked
 
 // What n slots are, by all packets.
 fn ask(run: &[u8], at: usize, n: usize) -> Asked
-    requires { ⌜ (12 * (at + n) ≤ length (now run)) × (1 ≤ n) × (n ≤ 256) ⌝ }
+    requires { ⌜ (slotWidth * (at + n) ≤ length (now run)) × (1 ≤ n) × (n ≤ slotCount) ⌝ }
     ensures { λ r. ⌜ AskedIs (slotsIn (now (run .entry)) at n) r ⌝ }
 {
     let mut extras: usize = 0;
@@ -171,7 +168,7 @@ fn ask(run: &[u8], at: usize, n: usize) -> Asked
 
 // What stands at the front of the slots that are left: each length is asked about, from 1 on.
 fn front(run: &[u8], at: usize, left: usize) -> Step
-    requires { ⌜ (12 * (at + left) ≤ length (now run)) × (1 ≤ left) × (left ≤ 256) ⌝ }
+    requires { ⌜ (slotWidth * (at + left) ≤ length (now run)) × (1 ≤ left) × (left ≤ slotCount) ⌝ }
     ensures { λ r. ⌜ StepIs (slotsIn (now (run .entry)) at left) r ⌝ }
 {
     let mut n: usize = 1;
@@ -189,7 +186,7 @@ fn front(run: &[u8], at: usize, left: usize) -> Step
 
 // Cuts packets off the front as long as one stands there.
 fn cut(run: &[u8], slots: usize, cuts: &mut [usize; 256]) -> Cuts
-    requires { ⌜ (12 * slots ≤ length (now run)) × (slots ≤ 256) × (length (now cuts) ≡ 256) ⌝ }
+    requires { ⌜ (slotWidth * slots ≤ length (now run)) × (slots ≤ slotCount) × (length (now cuts) ≡ slotCount) ⌝ }
     ensures { λ r. ⌜ CutAs (slotsIn (now (run .entry)) 0 slots) (now (cuts .entry)) (now (cuts .exit)) r ⌝ }
 {
     let mut at: usize = 0;
@@ -213,15 +210,15 @@ fn cut(run: &[u8], slots: usize, cuts: &mut [usize; 256]) -> Cuts
 
 // The division of a run, 12 bytes a slot. The table gets each packet's number of slots, in order; its other places stay.
 pub fn divide(run: &[u8], cuts: &mut [usize; 256]) -> Divided
-    requires { ⌜ length (now cuts) ≡ 256 ⌝ }
+    requires { ⌜ length (now cuts) ≡ slotCount ⌝ }
     ensures { λ r. ⌜ DividedAs (now (run .entry)) (now (cuts .entry)) (now (cuts .exit)) r ⌝ }
 {
     let n = run.len();
-    if n % WIDTH != 0 {
+    if n % DataSlot::WIDTH != 0 {
         return Divided::Uneven;
     }
-    let slots = n / WIDTH;
-    if MOST < slots {
+    let slots = n / DataSlot::WIDTH;
+    if (DataSlot::COUNT as usize) < slots {
         return Divided::TooLong;
     }
     Divided::Cut(cut(run, slots, cuts))

@@ -12,50 +12,51 @@ use Rattle.words.proofs.Word.{splice-length, splice-before, splice-inside, part
 use Rattle.ring.specs.Ring.{wadd, slotAt}
 use Rattle.ring.proofs.Ring.{slot-length}
 use Rattle.ring.proofs.Replied.{slot-ahead}
+use Rattle.netif.specs.Slot.{slotWidth, slotCount}
 use Rattle.division.specs.Run.{slotIn}
 use Rattle.compare.specs.Stored.{Taken}
 use Rattle.compare.proofs.stored.take.Statement.{statement}
 use Rattle.compare.proofs.stored.take.Tie as tie
 
-module _ (run s : List ℕ) (i : ℕ) (width : length s ≡ 12) (fits : 12 * i + 12 ≤ length run) where
+module _ (run s : List ℕ) (i : ℕ) (width : length s ≡ slotWidth) (fits : slotWidth * i + slotWidth ≤ length run) where
   -- a slot that is written stands there, and those before it stay
-  slot-here : slotIn (splice run (12 * i) s) i ≡ s
+  slot-here : slotIn (splice run (slotWidth * i) s) i ≡ s
   unfolding slotIn
   slot-here =
-      let h : 12 * i + length s ≤ length run = omega arith in
-      let next = splice run (12 * i) s in
-      let e : length next ≡ length run = splice-length run (12 * i) s h in
-      let w : length (take 12 (drop (12 * i) next)) ≡ 12 = simp (length-take, length-drop) (omega arith) in
-      ext-getD 0 (take 12 (drop (12 * i) next)) s (omega arith)
-      (λ j k. getD-take 12 (drop (12 * i) next) j 0 (omega arith) ∙ getD-drop (12 * i) next j 0 ∙ splice-inside run (12 * i) s h j (omega arith))
+      let h : slotWidth * i + length s ≤ length run = omega arith in
+      let next = splice run (slotWidth * i) s in
+      let e : length next ≡ length run = splice-length run (slotWidth * i) s h in
+      let w : length (take slotWidth (drop (slotWidth * i) next)) ≡ slotWidth = simp (length-take, length-drop) (omega arith) in
+      ext-getD 0 (take slotWidth (drop (slotWidth * i) next)) s (omega arith)
+      (λ j k. getD-take slotWidth (drop (slotWidth * i) next) j 0 (omega arith) ∙ getD-drop (slotWidth * i) next j 0 ∙ splice-inside run (slotWidth * i) s h j (omega arith))
 
-  slot-there : (k : ℕ) → k < i → slotIn (splice run (12 * i) s) k ≡ slotIn run k
+  slot-there : (k : ℕ) → k < i → slotIn (splice run (slotWidth * i) s) k ≡ slotIn run k
   unfolding slotIn
   slot-there k lt =
-      let h : 12 * i + length s ≤ length run = omega arith in
-      part-same (splice run (12 * i) s) run (12 * k) 12 (splice-length run (12 * i) s h) (λ j a b. splice-before run (12 * i) s h j (omega arith))
+      let h : slotWidth * i + length s ≤ length run = omega arith in
+      part-same (splice run (slotWidth * i) s) run (slotWidth * k) slotWidth (splice-length run (slotWidth * i) s h) (λ j a b. splice-before run (slotWidth * i) s h j (omega arith))
 
 taken-none : (page : List ℕ) (from : ℕ) (run : List ℕ) → Taken page from 0 run
 unfolding Taken
 taken-none page from run = below-none _
 
 -- one slot more: slot m of the page, which is the one i behind the first
-taken-more : (page : List ℕ) (from i m : ℕ) (run : List ℕ) → 64 + 12 * 256 ≤ length page → 12 * i + 12 ≤ length run → m ≡ wadd from i
-    → Taken page from i run → Taken page from (i + 1) (splice run (12 * i) (slotAt 12 256 page m))
+taken-more : (page : List ℕ) (from i m : ℕ) (run : List ℕ) → 64 + slotWidth * slotCount ≤ length page → slotWidth * i + slotWidth ≤ length run → m ≡ wadd from i
+    → Taken page from i run → Taken page from (i + 1) (splice run (slotWidth * i) (slotAt slotWidth slotCount page m))
 unfolding Taken
 taken-more page from i m run big fits ahead all =
-    let s = slotAt 12 256 page m in
-    let w = slot-length 12 256 (omega arith) page big m in
+    let s = slotAt slotWidth slotCount page m in
+    let w = slot-length slotWidth slotCount (omega arith) page big m in
     below-more _ i
     (λ k lt. slot-there run s i w fits k lt ∙ all k lt)
-    (slot-here run s i w fits ∙ slot-ahead 12 256 (omega arith) page from m i ahead)
+    (slot-here run s i w fits ∙ slot-ahead slotWidth slotCount (omega arith) page from m i ahead)
 
 taken-all : (page : List ℕ) (from i n : ℕ) (run : List ℕ) → n ≤ i → Taken page from i run → Taken page from n run
 unfolding Taken
 taken-all page from i n run h all k lt = all k (omega arith)
 
 abbrev Inv-loop : tie.InvT-loop
-Inv-loop page from slots run₀ k₀ run k = (k ≤ slots) × (length run ≡ 3072) × Taken page from k run
+Inv-loop page from slots run₀ k₀ run k = (k ≤ slots) × (length run ≡ slotWidth * slotCount) × Taken page from k run
 
 abbrev μ-loop : tie.MeasureT-loop
 μ-loop page from slots run₀ k₀ run k = slots - k

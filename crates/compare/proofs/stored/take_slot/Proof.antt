@@ -9,6 +9,7 @@ use Rattle.words.specs.Word.{splice}
 use Rattle.words.proofs.Word.{part-written}
 use Rattle.ring.specs.Ring.{slotAt}
 use Rattle.ring.proofs.Ring.{slot-length}
+use Rattle.netif.specs.Slot.{slotWidth, slotCount}
 use Rattle.compare.proofs.stored.take_slot.Statement.{statement}
 use Rattle.compare.proofs.stored.take_slot.Tie as tie
 
@@ -33,7 +34,7 @@ part-copy-end c = search needs
 copy-requires : tie.Need-copy-requires
 copy-requires c κs =
     let a = c .before .before .before .before .args in
-    let e = ap length (c .before .slot .ensures) ∙ slot-length 12 256 (omega arith) (a .page .now) (omega arith) (a .n) in
+    let e = ap length (c .before .slot .ensures) ∙ slot-length slotWidth slotCount (omega arith) (a .page .now) (omega arith) (a .n) in
     (simp (length-take, length-drop) (omega (arith, e)), omega (arith, e))
 
 same-length : tie.Need-same-length
@@ -42,11 +43,11 @@ same-length c = search needs
 returns : tie.Need-returns
 returns c =
     let a = c .before .before .before .before .before .before .before .args in
-    let s = slotAt 12 256 (a .page .now) (a .n) in
-    let n = 12 * a .i + 12 - 12 * a .i in
+    let s = slotAt slotWidth slotCount (a .page .now) (a .n) in
+    let n = slotWidth * a .i + slotWidth - slotWidth * a .i in
     let e = c .before .before .before .before .slot .ensures in
-    ap (λ (b : List ℕ). take (12 * a .i) (a .run .now) ++ (b ++ drop n (drop (12 * a .i) (a .run .now)))) (c .before .before .copy .ensures .0 ∙ ap (splice (take n (drop (12 * a .i) (a .run .now))) 0) e)
-    ∙ part-written (a .run .now) s (12 * a .i) n (omega (arith, slot-length 12 256 (omega arith) (a .page .now) (omega arith) (a .n))) (omega arith)
+    ap (λ (b : List ℕ). take (slotWidth * a .i) (a .run .now) ++ (b ++ drop n (drop (slotWidth * a .i) (a .run .now)))) (c .before .before .copy .ensures .0 ∙ ap (splice (take n (drop (slotWidth * a .i) (a .run .now))) 0) e)
+    ∙ part-written (a .run .now) s (slotWidth * a .i) n (omega (arith, slot-length slotWidth slotCount (omega arith) (a .page .now) (omega arith) (a .n))) (omega arith)
 
 pub take-slot-spec : {M : Type 1} → statement M
 take-slot-spec =

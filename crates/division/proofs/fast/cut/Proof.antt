@@ -20,7 +20,7 @@ Inv-loop page slots cuts₀ at₀ count₀ cuts at count =
     Cutting (slotsFrom slotWidth slotCount page 0 slots) cuts₀ cuts count (slotsFrom slotWidth slotCount page at (slots - at))
     × (at ≤ slots)
     × (count ≤ at)
-    × (length cuts ≡ 256)
+    × (length cuts ≡ slotCount)
 
 abbrev μ-loop : tie.MeasureT-loop
 μ-loop page slots cuts₀ at₀ count₀ cuts at count = slots - at

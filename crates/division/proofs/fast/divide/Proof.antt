@@ -16,6 +16,9 @@ use Rattle.division.proofs.fast.divide.Tie as tie
 returns : tie.Need-returns
 returns c = divided-only _ _ _ divided.Uneven ((λ k. omega arith), refl)
 
+cast-if2 : tie.Need-cast-if2
+cast-if2 c = search needs
+
 returns-2 : tie.Need-returns-2
 returns-2 c = divided-only _ _ _ divided.TooLong (omega arith, omega arith, refl)
 
@@ -44,6 +47,7 @@ divide-spec =
     tie.close
     (tie.spec
     returns
+    cast-if2
     returns-2
     slice-aggregate-lay
     lay-requires

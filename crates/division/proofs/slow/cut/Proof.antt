@@ -5,6 +5,7 @@ use mathlib.Core.Path.{_≡_, ap, subst}
 use Prim.Native.Nat.{_-_, _≤_}
 use native.Mathlib.Omega.{arith}
 use lib.ListN.{length, length-set}
+use Rattle.netif.specs.Slot.{slotCount}
 use Rattle.division.specs.Run.{slotsIn}
 use Rattle.division.specs.Answer.{StepIs}
 use Rattle.division.specs.declared.Ending.the-variants as ending
@@ -18,7 +19,7 @@ Inv-loop run slots cuts₀ at₀ count₀ cuts at count =
     Cutting (slotsIn run 0 slots) cuts₀ cuts count (slotsIn run at (slots - at))
     × (at ≤ slots)
     × (count ≤ at)
-    × (length cuts ≡ 256)
+    × (length cuts ≡ slotCount)
 
 abbrev μ-loop : tie.MeasureT-loop
 μ-loop run slots cuts₀ at₀ count₀ cuts at count = slots - at

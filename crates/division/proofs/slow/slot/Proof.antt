@@ -3,6 +3,7 @@ use mathlib.Core.Path.{_≡_}
 use Prim.Native.Nat.{_+_, _-_, _*_}
 use native.Mathlib.Omega.{arith}
 use borrow.Author.Needs.{needs}
+use Rattle.netif.specs.Slot.{slotWidth}
 use Rattle.division.specs.Run.{slotIn}
 use Rattle.division.proofs.slow.slot.Statement.{statement}
 use Rattle.division.proofs.slow.slot.Tie as tie
@@ -26,7 +27,7 @@ returns : tie.Need-returns
 unfolding slotIn
 returns c =
     let i = c .before .args .i in
-    let e : 12 * i + 12 - 12 * i ≡ 12 = omega arith in
+    let e : slotWidth * i + slotWidth - slotWidth * i ≡ slotWidth = omega arith in
     rw e
 
 pub slot-spec : {M : Type 1} → statement M
