@@ -53,8 +53,9 @@ pub record Counted (slots : ℕ) (compared : Compared) (r : Tally) : Type 0 wher
   pub uneven : r .uneven ≡ unevenOf (compared .slow)
   pub tooLong : r .«too_long» ≡ tooLongOf (compared .slow)
 
--- both readers agreed throughout: as many cuts by each, all of them agreed, and every run ended alike
-pub record Agreeing (r : Tally) : Type 0 where
+-- both readers agreed on so many runs: as many cuts by each, all of them agreed, and every run ended alike
+pub record Agreeing (count : ℕ) (r : Tally) : Type 0 where
+  pub runs : r .runs ≡ count
   pub cuts : r .fast ≡ r .slow
   pub agreed : r .agreed ≡ r .slow
-  pub alike : r .alike ≡ r .runs
+  pub alike : r .alike ≡ count

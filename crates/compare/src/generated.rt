@@ -1,4 +1,6 @@
 // The comparison on generated runs, by the settings of the generator.
+ghost use mathlib.Core.Path.{_≡_};
+ghost use Prim.Native.Nat.{_+_, _≤_};
 ghost use Rattle.compare.specs.Tally.{Agreeing};
 use crate::line;
 use crate::made;
@@ -12,7 +14,7 @@ const RUNS: u32 = 512;
 
 // The comparison on the run of a number.
 fn run(number: u32, setting: Setting) -> Tally
-    ensures { λ r. ⌜ Agreeing r ⌝ }
+    ensures { λ r. ⌜ Agreeing 1 r ⌝ }
 {
     let mut room = [0u8; 3084];
     let n = made::make(number, setting, &mut room);
@@ -22,7 +24,7 @@ fn run(number: u32, setting: Setting) -> Tally
 
 // The comparison on all runs of a setting, which are numbered from a first number on.
 fn runs(first: u32, setting: Setting) -> Tally
-    ensures { λ r. ⌜ Agreeing r ⌝ }
+    ensures { λ r. ⌜ Agreeing 512 r ⌝ }
 {
     let mut all = tally::none();
     let mut k: u32 = 0;
@@ -33,10 +35,10 @@ fn runs(first: u32, setting: Setting) -> Tally
     all
 }
 
-// The comparison on a setting's runs and its line, added to what was counted before.
+// The comparison on a setting's runs and its line, added to what was counted before, of the runs up to its first number.
 fn add(before: Tally, name: &[u8], first: u32, later: u8, extras: u8, flaws: u32) -> Tally
-    requires { ⌜ Agreeing before ⌝ }
-    ensures { λ r. ⌜ Agreeing r ⌝ }
+    requires { ⌜ Agreeing first before × (first ≤ 3072) ⌝ }
+    ensures { λ r. ⌜ Agreeing (first + 512) r ⌝ }
 {
     let found = runs(
         first,
@@ -52,7 +54,7 @@ fn add(before: Tally, name: &[u8], first: u32, later: u8, extras: u8, flaws: u32
 
 // All settings, in FORMAT.md's order.
 pub fn all() -> Tally
-    ensures { λ r. ⌜ Agreeing r ⌝ }
+    ensures { λ r. ⌜ Agreeing 3584 r ⌝ }
 {
     let singles = add(tally::none(), b"singles", 0, 0, 0, 0);
     let extras = add(singles, b"extras", 512, 0, 4, 0);

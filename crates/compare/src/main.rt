@@ -8,23 +8,23 @@ mod made;
 mod stored;
 mod tally;
 
+ghost use Prim.Native.Nat.{_≤_};
 ghost use Rattle.compare.specs.Tally.{Agreeing};
 use tally::Tally;
 
 // The comparison on the page that an argument names.
 fn page(i: usize) -> Tally
-    ensures { λ r. ⌜ Agreeing r ⌝ }
+    ensures { λ r. ⌜ Agreeing (r .runs) r × (r .runs ≤ 1) ⌝ }
 {
     let mut name = [0u8; 64];
     let n = os::arg(i, &mut name);
     stored::compare(&name[..n])
 }
 
-// The comparison on the pages that all arguments name.
-fn pages() -> Tally
-    ensures { λ r. ⌜ Agreeing r ⌝ }
+// The comparison on the pages that all arguments name, of which there are so many with the program's own name.
+fn pages(count: usize) -> Tally
+    ensures { λ r. ⌜ Agreeing (r .runs) r × (r .runs ≤ count) ⌝ }
 {
-    let count = os::arg_count();
     let mut all = tally::none();
     let mut i: usize = 1;
     while i < count {
@@ -35,7 +35,7 @@ fn pages() -> Tally
 }
 
 fn main() {
-    let stored = pages();
+    let stored = pages(os::arg_count());
     let made = generated::all();
     line::total(tally::plus(stored, made));
 }

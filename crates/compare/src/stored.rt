@@ -5,7 +5,7 @@ ghost use lib.ListN.{length};
 ghost use Rattle.words.specs.Word.{splice};
 ghost use Rattle.ring.specs.Ring.{pageSize, rspProd, slotAt};
 ghost use Rattle.netif.specs.Slot.{slotWidth, slotCount};
-ghost use Rattle.compare.specs.Stored.{Taken};
+ghost use Rattle.compare.specs.Stored.{Taken, runsOf};
 ghost use Rattle.compare.specs.Tally.{Agreeing};
 use crate::line;
 use crate::tally;
@@ -62,7 +62,7 @@ fn load(name: &[u8], page: &mut [u8; 4096]) -> bool {
 
 // The comparison on a run and its line.
 fn compare_run(name: &[u8], run: &[u8]) -> Tally
-    ensures { λ r. ⌜ Agreeing r ⌝ }
+    ensures { λ r. ⌜ Agreeing 1 r ⌝ }
 {
     let slots = run.len() / DataSlot::WIDTH;
     let compared = division::compare(run);
@@ -72,7 +72,7 @@ fn compare_run(name: &[u8], run: &[u8]) -> Tally
 
 // The comparison on the slots that a page has from its rsp_prod up to its req_prod.
 fn compare_page(name: &[u8], page: &[u8; 4096]) -> Tally
-    ensures { λ r. ⌜ Agreeing r ⌝ }
+    ensures { λ r. ⌜ Agreeing (runsOf (now (page .entry))) r ⌝ }
 {
     let from = counter(page);
     let posted = ring::posted(page, from);
@@ -86,9 +86,9 @@ fn compare_page(name: &[u8], page: &[u8; 4096]) -> Tally
     compare_run(name, &run[..n])
 }
 
-// The comparison on the page in a file.
+// The comparison on the page in a file, which may have no run.
 pub fn compare(name: &[u8]) -> Tally
-    ensures { λ r. ⌜ Agreeing r ⌝ }
+    ensures { λ r. ⌜ Agreeing (r .runs) r × (r .runs ≤ 1) ⌝ }
 {
     let mut page = [0u8; 4096];
     if !load(name, &mut page) {

@@ -1,5 +1,7 @@
--- `generated::runs` meets its contract. The invariant: both readers agreed on the runs passed. The measure is the number of runs that are left.
+-- `generated::runs` meets its contract. The invariant: both readers agreed on the runs passed, which are k. The measure is the number of runs that are left.
+use mathlib.Core.Path.{_≡_}
 use Prim.Native.Nat.{_-_, _≤_}
+use native.Mathlib.Omega.{arith}
 use borrow.Author.Needs.{needs}
 use Rattle.compare.specs.Tally.{Agreeing}
 use Rattle.compare.proofs.Agreeing.{nothing-agrees, together-agrees}
@@ -7,7 +9,7 @@ use Rattle.compare.proofs.generated.runs.Statement.{statement}
 use Rattle.compare.proofs.generated.runs.Tie as tie
 
 abbrev Inv-loop : tie.InvT-loop
-Inv-loop first setting all₀ k₀ all k = (k ≤ 512) × Agreeing all
+Inv-loop first setting all₀ k₀ all k = (k ≤ 512) × Agreeing k all
 
 abbrev μ-loop : tie.MeasureT-loop
 μ-loop first setting all₀ k₀ all k = 512 - k
@@ -34,10 +36,12 @@ loop-less : tie.Need-loop-less Inv-loop μ-loop
 loop-less c = search needs
 
 loop-again : tie.Need-loop-again Inv-loop μ-loop
-loop-again c = (search needs, together-agrees (c .before .before .before .before .loop .inv .1) (c .before .run .ensures) (c .plus .ensures))
+loop-again c = (search needs, together-agrees (omega arith) (c .before .before .before .before .loop .inv .1) (c .before .run .ensures) (c .plus .ensures))
 
 returns : tie.Need-returns Inv-loop μ-loop
-returns c = c .before .loop .inv .1
+returns c =
+    let all : c .before .loop .k ≡ 512 = omega arith in
+    rw all at (c .before .loop .inv .1)
 
 pub runs-spec : {M : Type 1} → statement M
 runs-spec = tie.close (tie.spec Inv-loop μ-loop none-requires loop-holds wrapping-add-u32-requires run-requires plus-requires add-k loop-less loop-again returns)
