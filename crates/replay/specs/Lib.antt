@@ -1,3 +1,4 @@
 -- The definitions that the promises cite.
 pub mod Fnv
 pub mod Pattern
+pub mod Calls

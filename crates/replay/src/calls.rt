@@ -1,19 +1,19 @@
 // The calls on a ring, one after another, up to and including the first that takes nothing.
 ghost use mathlib.Core.Path.{_≡_};
-ghost use mathlib.Core.Bool.{_||_};
-ghost use Prim.Native.Nat.{_≤_, _<_};
+ghost use Prim.Native.Nat.{_+_, _*_, _≤_, _<_};
 ghost use lib.ListN.{length};
-ghost use lib.Dec.{eqb};
 ghost use Rattle.ring.specs.Ring.{rspProd};
 ghost use Rattle.io.specs.Counts.{Counts};
 ghost use Rattle.replay.specs.Pattern.{Counted};
+ghost use Rattle.replay.specs.Calls.{takes, mostCalls, lengthOf, TransmitCalled, TransmitCalls, ReceiveCalled, ReceiveCalls};
 use crate::checksum;
 use crate::line;
 
 // A ring holds at most 256 slots, and each call but the last takes one or more.
 const MOST_CALLS: u32 = 257;
 
-const LONGEST: usize = 65535;
+// The lengths of the frames that receive calls deliver, in turn.
+const LENGTHS: [usize; 9] = [14, 60, 1514, 4095, 4096, 4097, 8192, 9000, 65535];
 
 const RSP_PROD: usize = 8;
 
@@ -26,7 +26,7 @@ fn counter(page: &[u8; 4096]) -> u32
 
 // Whether a call with this answer took something: done or spoiled.
 fn took(answer: u32) -> bool
-    ensures { λ r. ⌜ r ≡ (eqb answer 0 || eqb answer 7) ⌝ }
+    ensures { λ r. ⌜ r ≡ takes answer ⌝ }
 {
     answer == 0 || answer == 7
 }
@@ -39,7 +39,11 @@ fn transmit_call(
     page: &mut [u8],
     grants: &[u8],
     window: &[u8],
-) -> bool {
+) -> bool
+    ensures { λ r. ⌜
+        TransmitCalled (now (grants .entry)) (now (window .entry)) (now (consumed .entry)) (now (halted .entry))
+        (now (page .entry)) r (now (consumed .exit)) (now (halted .exit)) (now (page .exit)) ⌝ }
+{
     let mut frame = [0u8; 65535];
     let mut report = [0u32; 10];
     line::begin(name, b" tx", *consumed);
@@ -52,14 +56,18 @@ fn transmit_call(
         &mut frame,
         &mut report,
     );
-    line::words(&report);
-    line::sums(checksum::of_first(&frame, report[5]), checksum::of(page));
-    line::end();
+    let frame_sum = checksum::of_first(&frame, report[5]);
+    let page_sum = checksum::of(page);
+    line::end_transmit(&report, frame_sum, page_sum);
     took(answer)
 }
 
 // The calls on a transmit ring.
-pub fn transmit(name: &[u8], page: &mut [u8; 4096], grants: &[u8], window: &[u8]) {
+pub fn transmit(name: &[u8], page: &mut [u8; 4096], grants: &[u8], window: &[u8])
+    ensures { λ _. ⌜
+        TransmitCalls (now (grants .entry)) (now (window .entry)) (now (page .exit)) 0 (rspProd (now (page .entry))) 0
+        (now (page .entry)) ⌝ }
+{
     let mut consumed = counter(page);
     let mut halted: u32 = 0;
     let mut calls: u32 = 0;
@@ -72,19 +80,9 @@ pub fn transmit(name: &[u8], page: &mut [u8; 4096], grants: &[u8], window: &[u8]
 
 // The length of the frame that a receive call delivers.
 fn frame_length(call: u32) -> usize
-    ensures { λ r. ⌜ r ≤ 65535 ⌝ }
+    ensures { λ r. ⌜ r ≡ lengthOf call ⌝ }
 {
-    match call % 9 {
-        0 => 14,
-        1 => 60,
-        2 => 1514,
-        3 => 4095,
-        4 => 4096,
-        5 => 4097,
-        6 => 8192,
-        7 => 9000,
-        _ => LONGEST,
-    }
+    LENGTHS[(call % 9) as usize]
 }
 
 // Fills a buffer with bytes that count up from a start, modulo 251.
@@ -100,8 +98,9 @@ pub fn fill(bytes: &mut [u8], start: u32)
 
 // Puts the frame that a receive call delivers at the front of a buffer; its length.
 fn frame_of(call: u32, buffer: &mut [u8; 65535]) -> usize
-    requires { ⌜ call < 257 ⌝ }
-    ensures { λ r. ⌜ Counts r (now (buffer .exit)) ⌝ }
+    requires { ⌜ call < mostCalls ⌝ }
+    ensures { λ r. ⌜
+        Counts r (now (buffer .exit)) × (r ≡ lengthOf call) × Counted (7 * call + 1) 65535 (now (buffer .exit)) ⌝ }
 {
     fill(buffer, 7 * call + 1);
     frame_length(call)
@@ -117,7 +116,10 @@ fn receive_call(
     grants: &[u8],
     window: &mut [u8],
 ) -> bool
-    requires { ⌜ call < 257 ⌝ }
+    requires { ⌜ call < mostCalls ⌝ }
+    ensures { λ r. ⌜
+        ReceiveCalled (now (grants .entry)) call (now (consumed .entry)) (now (halted .entry)) (now (page .entry))
+        (now (window .entry)) r (now (consumed .exit)) (now (halted .exit)) (now (page .exit)) (now (window .exit)) ⌝ }
 {
     let mut buffer = [0u8; 65535];
     let mut report = [0u32; 10];
@@ -133,15 +135,19 @@ fn receive_call(
         frame,
         &mut report,
     );
-    line::words(&report);
-    line::sums(checksum::of_first(frame, report[5]), checksum::of(page));
-    line::window(checksum::of(window));
-    line::end();
+    let frame_sum = checksum::of_first(frame, report[5]);
+    let page_sum = checksum::of(page);
+    let window_sum = checksum::of(window);
+    line::end_receive(&report, frame_sum, page_sum, window_sum);
     took(answer)
 }
 
 // The calls on a receive ring.
-pub fn receive(name: &[u8], page: &mut [u8; 4096], grants: &[u8], window: &mut [u8]) {
+pub fn receive(name: &[u8], page: &mut [u8; 4096], grants: &[u8], window: &mut [u8])
+    ensures { λ _. ⌜
+        ReceiveCalls (now (grants .entry)) (now (page .exit)) (now (window .exit)) 0 (rspProd (now (page .entry))) 0
+        (now (page .entry)) (now (window .entry)) ⌝ }
+{
     let mut consumed = counter(page);
     let mut halted: u32 = 0;
     let mut calls: u32 = 0;

@@ -43,8 +43,8 @@ pub fn begin(name: &[u8], ring: &[u8], consumed: u32) {
     number(b" consumed ", consumed);
 }
 
-// The ten words of a report.
-pub fn words(report: &[u32; 10]) {
+// The ten words of a report, and the checksums of the frame and of the ring page.
+fn told(report: &[u32; 10], frame: u32, page: u32) {
     number(b" answer ", report[0]);
     answer(report[0]);
     number(b" cause ", report[1]);
@@ -56,20 +56,19 @@ pub fn words(report: &[u32; 10]) {
     number(b" validated ", report[7]);
     number(b" gso ", report[8]);
     number(b" ", report[9]);
-}
-
-// The checksums of the frame and of the ring page.
-pub fn sums(frame: u32, page: u32) {
     sum(b" frame ", frame);
     sum(b" page ", page);
 }
 
-// The checksum of the window.
-pub fn window(n: u32) {
-    sum(b" window ", n);
+// The rest of a transmit call's line.
+pub fn end_transmit(report: &[u32; 10], frame: u32, page: u32) {
+    told(report, frame, page);
+    text(b"\n");
 }
 
-// The line's end.
-pub fn end() {
+// The rest of a receive call's line, with the checksum of the window.
+pub fn end_receive(report: &[u32; 10], frame: u32, page: u32, window: u32) {
+    told(report, frame, page);
+    sum(b" window ", window);
     text(b"\n");
 }

@@ -8,6 +8,7 @@ use lib.Seq.{getD-set-same, getD-set-other}
 use borrow.Author.Count.{below-none, below-more}
 use borrow.Author.Needs.{needs}
 use Rattle.replay.specs.Pattern.{Counted}
+use Rattle.replay.proofs.Calling.{counted-fewer}
 use Rattle.replay.proofs.calls.fill.Statement.{statement}
 use Rattle.replay.proofs.calls.fill.Tie as tie
 
@@ -22,10 +23,6 @@ counted-more start i l h all =
     below-more _ i
     (λ k lt. getD-set-other l i k v 0 (λ e. absurd (omega (arith, e, lt))) ∙ all k lt)
     (getD-set-same l i v 0 h ∙ omega arith)
-
-counted-all : (start i n : ℕ) (l : List ℕ) → n ≤ i → Counted start i l → Counted start n l
-unfolding Counted
-counted-all start i n l h all k lt = all k (omega arith)
 
 abbrev Inv-loop : tie.InvT-loop
 Inv-loop bytes₀ start i₀ bytes i = (i ≤ length bytes) × (length bytes ≡ length bytes₀) × Counted start i bytes
@@ -59,7 +56,7 @@ same-length c = search needs
 
 returns : tie.Need-returns Inv-loop μ-loop
 returns c =
-    counted-all (c .before .before .args .start) (c .before .loop .i) (length (c .before .before .args .bytes .now)) (c .before .loop .bytes) (omega arith) (c .before .loop .inv .2)
+    counted-fewer (c .before .before .args .start) (c .before .loop .i) (length (c .before .before .args .bytes .now)) (c .before .loop .bytes) (omega arith) (c .before .loop .inv .2)
 
 pub fill-spec : {M : Type 1} → statement M
 fill-spec =

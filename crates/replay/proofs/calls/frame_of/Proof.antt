@@ -2,6 +2,7 @@
 use native.Mathlib.Omega.{arith}
 use borrow.Author.Needs.{needs}
 use Rattle.io.proofs.Counting.{counts}
+use Rattle.replay.proofs.Calling.{length-most, counted-fewer}
 use Rattle.replay.proofs.calls.frame_of.Statement.{statement}
 use Rattle.replay.proofs.calls.frame_of.Tie as tie
 
@@ -18,7 +19,9 @@ frame-length-requires : tie.Need-frame-length-requires
 frame-length-requires c κs = search needs
 
 returns : tie.Need-returns
-returns c = counts (c .frame-length .result) (c .before .fill .last .0) (omega arith)
+returns c =
+    let n = c .frame-length .ensures in
+    (counts (c .frame-length .result) (c .before .fill .last .0) (omega (arith, n, length-most (c .before .before .before .args .call))), n, counted-fewer _ _ 65535 _ (omega arith) (c .before .fill .ensures))
 
 pub frame-of-spec : {M : Type 1} → statement M
 frame-of-spec = tie.close (tie.spec mul-fill add-fill fill-requires frame-length-requires returns)
