@@ -8,9 +8,10 @@ ghost use Rattle.replay.specs.Pattern.{Counted};
 ghost use Rattle.replay.specs.Calls.{takes, mostCalls, lengthOf, TransmitCalled, TransmitCalls, ReceiveCalled, ReceiveCalls};
 use crate::checksum;
 use crate::line;
+use netif::DataSlot;
 
-// A ring holds at most 256 slots, and each call but the last takes one or more.
-const MOST_CALLS: u32 = 257;
+// A ring holds so many slots, and each call but the last takes one or more.
+const MOST_CALLS: u32 = DataSlot::COUNT + 1;
 
 // The lengths of the frames that receive calls deliver, in turn.
 const LENGTHS: [usize; 9] = [14, 60, 1514, 4095, 4096, 4097, 8192, 9000, 65535];

@@ -1,8 +1,8 @@
 // Runs the stored ring pages of real guests that its arguments name, and then document 01's examples that are not proved, through
 // the library's two calls, and prints a line for each call. tests/reference/FORMAT.md describes the inputs and the lines.
-mod bench;
 mod calls;
 mod checksum;
+mod examples;
 mod line;
 mod stored;
 
@@ -20,5 +20,5 @@ fn main() {
         replay(i);
         i += 1;
     }
-    bench::replay();
+    examples::replay();
 }

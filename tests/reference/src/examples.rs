@@ -1,4 +1,4 @@
-//! Document 01's bench examples that are run and not proved, as rings. FORMAT.md describes them.
+//! Document 01's examples that are run and not proved, as rings. FORMAT.md describes them.
 
 use super::calls::Ring;
 use super::grants::whole_page_bytes;

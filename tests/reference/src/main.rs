@@ -1,4 +1,4 @@
-//! `reference replay DIR` prints a line for each call on the stored ring pages in DIR and on the bench examples.
+//! `reference replay DIR` prints a line for each call on the stored ring pages in DIR and on document 01's examples.
 //! `reference divide DIR` prints how the runs of the stored transmit ring pages in DIR, and generated runs, are divided.
 
 #![deny(warnings)]

@@ -1,8 +1,8 @@
--- `replay::bench::put_alike` is safe and ends. The measure is the number of slots that are left.
+-- `replay::examples::put_alike` is safe and ends. The measure is the number of slots that are left.
 use Prim.Native.Nat.{_-_, _≤_}
 use borrow.Author.Needs.{needs}
-use Rattle.replay.proofs.bench.put_alike.Statement.{statement}
-use Rattle.replay.proofs.bench.put_alike.Tie as tie
+use Rattle.replay.proofs.examples.put_alike.Statement.{statement}
+use Rattle.replay.proofs.examples.put_alike.Tie as tie
 
 abbrev Inv-loop : tie.InvT-loop
 Inv-loop page₀ first from to offset flags size k₀ page k = k ≤ to

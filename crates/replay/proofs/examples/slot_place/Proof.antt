@@ -1,9 +1,9 @@
--- `replay::bench::slot_place` meets its contract: the last of 256 slots of 12 bytes ends within the page.
+-- `replay::examples::slot_place` meets its contract: the last of 256 slots of 12 bytes ends within the page.
 use native.Mathlib.Omega.{arith}
 use borrow.Author.Needs.{needs}
 use Rattle.ring.specs.Ring.{slotPlace}
-use Rattle.replay.proofs.bench.slot_place.Statement.{statement}
-use Rattle.replay.proofs.bench.slot_place.Tie as tie
+use Rattle.replay.proofs.examples.slot_place.Statement.{statement}
+use Rattle.replay.proofs.examples.slot_place.Tie as tie
 
 place-requires : tie.Need-place-requires
 place-requires c κs = search needs

@@ -1,7 +1,9 @@
-// Document 01's bench examples that are run and not proved: transmit rings on pages that are made here.
+// Document 01's examples that are run and not proved: transmit rings on pages that are made here.
 ghost use mathlib.Core.Path.{_≡_};
 ghost use Prim.Native.Nat.{_+_, _≤_, _<_};
 ghost use lib.ListN.{length};
+ghost use Rattle.ring.specs.Ring.{pageSize};
+ghost use Rattle.netif.specs.Slot.{slotWidth, slotCount};
 use crate::calls;
 use netif::DataSlot;
 
@@ -33,14 +35,14 @@ fn ring_page(consumed: u32, posted: u32) -> [u8; 4096] {
 
 // Where slot n stands.
 fn slot_place(n: u32) -> usize
-    ensures { λ r. ⌜ r + 12 ≤ 4096 ⌝ }
+    ensures { λ r. ⌜ r + slotWidth ≤ pageSize ⌝ }
 {
     ring::place(DataSlot::WIDTH, DataSlot::COUNT, n)
 }
 
 // Data slot k of an example whose slots start at a counter.
 fn put_data(page: &mut [u8; 4096], first: u32, k: u16, offset: u16, flags: u16, size: u16)
-    requires { ⌜ k < 256 ⌝ }
+    requires { ⌜ k < slotCount ⌝ }
 {
     let at = slot_place(ring::ahead(first, k as u32));
     words::put_u32(page, at, k as u32 % PAGES);
@@ -60,7 +62,7 @@ fn put_alike(
     flags: u16,
     size: u16,
 )
-    requires { ⌜ (from ≤ to) × (to ≤ 256) ⌝ }
+    requires { ⌜ (from ≤ to) × (to ≤ slotCount) ⌝ }
 {
     let mut k = from;
     while k < to {

@@ -1,10 +1,10 @@
--- `replay::bench::grant_table` is safe and ends. The measure is the number of references that are left.
+-- `replay::examples::grant_table` is safe and ends. The measure is the number of references that are left.
 use mathlib.Core.Path.{_≡_}
 use Prim.Native.Nat.{_-_, _≤_}
 use lib.ListN.{length}
 use borrow.Author.Needs.{needs}
-use Rattle.replay.proofs.bench.grant_table.Statement.{statement}
-use Rattle.replay.proofs.bench.grant_table.Tie as tie
+use Rattle.replay.proofs.examples.grant_table.Statement.{statement}
+use Rattle.replay.proofs.examples.grant_table.Tie as tie
 
 abbrev Inv-loop : tie.InvT-loop
 Inv-loop grants₀ g₀ grants g = (g ≤ 18) × (144 ≡ length grants)
