@@ -5,10 +5,10 @@ use Prim.Native.Nat.{ℕ, _+_, _^_, _<_}
 use native.Mathlib.Omega.{arith}
 use borrow.Author.Tests.{eq-eqb}
 use Rattle.division.specs.Answer.{numberOf}
-use Rattle.division.specs.Compare.{countOf, comparedOf}
+use Rattle.readers.specs.Compare.{countOf, comparedOf}
 use Rattle.division.specs.declared.Divided.{Divided}
 use Rattle.division.specs.declared.Divided.the-variants as divided
-use Rattle.division.specs.declared.Compared.{Compared}
+use Rattle.readers.specs.declared.Compared.{Compared}
 use Rattle.compare.specs.Answer.{sameOf, alikeOf}
 use Rattle.compare.specs.Tally.{sumOf, Nothing, Together, Counted, Agreeing}
 use Rattle.compare.specs.declared.tally.Tally.{Tally}

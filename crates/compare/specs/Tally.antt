@@ -1,9 +1,9 @@
 -- What is counted of the comparisons.
 use mathlib.Core.Path.{_≡_}
 use Prim.Native.Nat.{ℕ, _+_, _%_, _^_}
-use Rattle.division.specs.Compare.{countOf}
+use Rattle.readers.specs.Compare.{countOf}
 use Rattle.division.specs.declared.Ending.the-variants as ending
-use Rattle.division.specs.declared.Compared.{Compared}
+use Rattle.readers.specs.declared.Compared.{Compared}
 use Rattle.compare.specs.Answer.{restOf, unevenOf, tooLongOf, alikeOf}
 use Rattle.compare.specs.declared.tally.Tally.{Tally}
 

@@ -21,7 +21,7 @@ pub fn rest(answer: Divided, kind: Ending) -> usize
     match answer {
         Divided::Cut(cuts) => {
             let ending = cuts.ending;
-            same(division::number_of(ending), division::number_of(kind))
+            same(readers::number_of(ending), readers::number_of(kind))
         }
         Divided::Uneven => 0,
         Divided::TooLong => 0,

@@ -19,7 +19,7 @@ fn run(number: u32, setting: Setting) -> Tally
     let mut room = [0u8; 3084];
     let n = made::make(number, setting, &mut room);
     let run = &room[..n];
-    tally::of(n / DataSlot::WIDTH, division::compare(run))
+    tally::of(n / DataSlot::WIDTH, readers::compare(run))
 }
 
 // The comparison on all runs of a setting, which are numbered from a first number on.

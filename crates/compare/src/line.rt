@@ -1,6 +1,6 @@
 // The printed lines, written field by field.
 use crate::tally::Tally;
-use division::Compared;
+use readers::Compared;
 use division::Divided;
 use division::Ending;
 use libc::STDOUT_FILENO;
@@ -43,8 +43,8 @@ pub fn page(name: &[u8], slots: usize, compared: Compared) {
     let fast = compared.fast;
     text(name);
     number(b" slots ", slots);
-    number(b" slow ", division::count_of(slow));
-    number(b" fast ", division::count_of(fast));
+    number(b" slow ", readers::count_of(slow));
+    number(b" fast ", readers::count_of(fast));
     number(b" agreed ", compared.agreed);
     text(b" ends");
     end(slow);

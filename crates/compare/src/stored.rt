@@ -65,7 +65,7 @@ fn compare_run(name: &[u8], run: &[u8]) -> Tally
     ensures { λ r. ⌜ Agreeing 1 r ⌝ }
 {
     let slots = run.len() / DataSlot::WIDTH;
-    let compared = division::compare(run);
+    let compared = readers::compare(run);
     line::page(name, slots, compared);
     tally::of(slots, compared)
 }

@@ -2,7 +2,7 @@
 ghost use mathlib.Core.Path.{_≡_};
 ghost use Rattle.compare.specs.Tally.{sumOf, Nothing, Together, Counted};
 use crate::answer;
-use division::Compared;
+use readers::Compared;
 use division::Ending;
 
 // Runs, their whole slots, the cuts of each reader, how many agreed, how many runs ended alike, and how many ended in each way by
@@ -75,8 +75,8 @@ pub fn of(slots: usize, compared: Compared) -> Tally
     Tally {
         runs: 1,
         slots,
-        slow: division::count_of(slow),
-        fast: division::count_of(fast),
+        slow: readers::count_of(slow),
+        fast: readers::count_of(fast),
         agreed: compared.agreed,
         alike: answer::alike(slow, fast),
         empty: answer::rest(slow, Ending::Empty),

@@ -2,23 +2,21 @@
 -- has one division, and the rest of it ends in one way.
 use mathlib.Core.Path.{_≡_, refl, sym, ap, _∙_}
 use mathlib.Core.List.{List, [], _∷_, map}
-use Prim.Native.Nat.{ℕ, zero, suc, _/_, _≤_}
+use Prim.Native.Nat.{ℕ}
 use native.Mathlib.Omega.{arith}
-use lib.ListN.{length, getD, length-append}
+use lib.ListN.{length}
 use borrow.Author.Tests.{eq-eqb, ne-eqb, le-leb, lt-leb}
 use Rattle.words.specs.Word.{splice}
-use Rattle.netif.specs.Slot.{Slot, slotWidth, slotCount}
-use Rattle.netif.specs.Grammar.{Begins, BeginsProperly, NoneAtFront, AllPackets, joinAll}
-use Rattle.netif.proofs.Grammar.{packet-some, nothing-begins, beginning-iff, misshapen-iff, division-only}
+use Rattle.netif.specs.Slot.{Slot}
+use Rattle.netif.specs.Grammar.{Begins, BeginsProperly, NoneAtFront}
+use Rattle.netif.proofs.Grammar.{nothing-begins, beginning-iff, misshapen-iff, division-only}
 use Rattle.division.specs.Answer.{EndsAs, CutAs, DividedAs}
 use Rattle.division.specs.Fast.{endingOf, cutsOf, lengthsOf, dividedOf, tableOf}
-use Rattle.division.specs.Compare.{countOf, agreeing}
 use Rattle.division.specs.declared.Ending.{Ending}
 use Rattle.division.specs.declared.Ending.the-variants as ending
 use Rattle.division.specs.declared.Cuts.{Cuts}
 use Rattle.division.specs.declared.Divided.{Divided}
 use Rattle.division.specs.declared.Divided.the-variants as divided
-use Rattle.division.proofs.Runs.{slots-length}
 
 -- a rest at whose front no packet stands ends in one way
 ending-only : (rest : List Slot) (e : Ending) → NoneAtFront rest → EndsAs rest e → e ≡ endingOf rest
@@ -55,22 +53,3 @@ pub readers-agree : (bytes before after after′ : List ℕ) (slow fast : Divide
 readers-agree bytes before after after′ slow fast h k =
     let (answer, table) = divided-only bytes before after slow h in
     (answer ∙ sym (k .0), table ∙ sym (k .1))
-
--- ---- the comparison
-
--- packets are no more than their slots
-few-packets : (ps : List (List Slot)) → AllPackets ps → length ps ≤ length (joinAll ps)
-few-packets [] h = omega arith
-few-packets (p ∷ ps) h = omega (arith, packet-some (h .0), few-packets ps (h .1), length-append p (joinAll ps))
-
-pub count-few : (bytes before after : List ℕ) (r : Divided) → DividedAs bytes before after r → countOf r ≤ slotCount
-count-few bytes before after divided.Uneven h = omega arith
-count-few bytes before after divided.TooLong h = omega arith
-count-few bytes before after (divided.Cut r) h =
-    let a = h .2 in
-    omega (arith, a .count, few-packets (a .packets) (a .division .each), ap length (a .division .joined), length-append (joinAll (a .packets)) (a .rest), slots-length bytes (length bytes / slotWidth) 0)
-
--- a table agrees with itself at every place
-pub agreeing-all : (n : ℕ) (a b : List ℕ) → a ≡ b → agreeing n a b ≡ n
-agreeing-all zero a b e = refl
-agreeing-all (suc n) a b e = rw (agreeing-all n a b e, eq-eqb _ _ (ap (λ l. getD l n 0) e)) (omega arith)

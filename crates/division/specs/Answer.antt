@@ -2,14 +2,12 @@
 use mathlib.Core.Path.{_≡_}
 use mathlib.Core.Logic.{_≢_}
 use mathlib.Core.List.{List, [], map}
-use mathlib.Core.Bool.{true}
-use Prim.Native.Nat.{ℕ, suc, _+_, _/_, _%_, _≤_, _<_}
+use Prim.Native.Nat.{ℕ, _/_, _%_, _≤_, _<_}
 use lib.ListN.{length, take}
 use Rattle.words.specs.Word.{splice}
 use Rattle.netif.specs.Slot.{Slot, slotWidth, slotCount}
-use Rattle.netif.specs.Grammar.{within, Packet, Begins, BeginsProperly, NoneAtFront, Division}
+use Rattle.netif.specs.Grammar.{Packet, Begins, BeginsProperly, NoneAtFront, Division}
 use Rattle.division.specs.Run.{runOf}
-use Rattle.division.specs.Shape.{shaped}
 use Rattle.division.specs.declared.Ending.{Ending}
 use Rattle.division.specs.declared.Ending.the-variants as ending
 use Rattle.division.specs.declared.Step.{Step}
@@ -17,8 +15,6 @@ use Rattle.division.specs.declared.Step.the-variants as step
 use Rattle.division.specs.declared.Cuts.{Cuts}
 use Rattle.division.specs.declared.Divided.{Divided}
 use Rattle.division.specs.declared.Divided.the-variants as divided
-use Rattle.division.specs.declared.slow.Asked.{Asked}
-use Rattle.division.specs.declared.slow.Asked.the-variants as asked
 
 -- what is left of a run (document 01: the rest): nothing, a nonempty proper beginning of a packet, or the beginning of none
 abbrev pub EndsAs : List Slot → Ending → Type 0
@@ -48,21 +44,7 @@ DividedAs bytes before after divided.Uneven = (length bytes % slotWidth ≢ 0) �
 DividedAs bytes before after divided.TooLong = (length bytes % slotWidth ≡ 0) × (slotCount < length bytes / slotWidth) × (after ≡ before)
 DividedAs bytes before after (divided.Cut r) = (length bytes % slotWidth ≡ 0) × (length bytes / slotWidth ≤ slotCount) × CutAs (runOf bytes) before after r
 
--- ---- the stages
-
 -- what stands at the front of the slots that are left
 abbrev pub StepIs : List Slot → Step → Type 0
 StepIs l (step.Packet n) = (n ≤ length l) × Packet (take n l)
 StepIs l (step.Stop e) = NoneAtFront l × EndsAs l e
-
--- what some slots are
-abbrev pub AskedIs : List Slot → Asked → Type 0
-AskedIs l asked.Packet = Packet l
-AskedIs l asked.Beginning = BeginsProperly l
-AskedIs l asked.Neither = Begins l → ⊥
-
--- the same where only packets of e extras were tried
-abbrev pub AskedWith : ℕ → List Slot → Asked → Type 0
-AskedWith e l asked.Packet = Packet l
-AskedWith e l asked.Beginning = BeginsProperly l
-AskedWith e l asked.Neither = (d : ℕ) → within (suc d) e ≡ true → length l ≤ suc d + e → shaped d e l ≡ true → ⊥

@@ -2,4 +2,3 @@ pub mod Run
 pub mod Shape
 pub mod Answer
 pub mod Fast
-pub mod Compare

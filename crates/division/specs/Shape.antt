@@ -7,21 +7,10 @@ use lib.ListN.{take, drop}
 use lib.Dec.{ltb}
 use Rattle.netif.specs.Slot.{Slot, moreData, extraFollows, isExtra, anotherExtra}
 use Rattle.netif.specs.Grammar.{isLater}
-use Rattle.division.specs.declared.slow.Kind.{Kind}
-use Rattle.division.specs.declared.slow.Kind.the-variants as kind
 
 -- whether both say yes or both say no
 abbrev pub alike : Bool → Bool → Bool
 alike a b = cond a b (not b)
-
--- a kind's test, and its announcement of another
-abbrev pub rightOf : Kind → Slot → Bool
-rightOf kind.Extra = isExtra
-rightOf kind.Later = isLater
-
-abbrev pub announcesOf : Kind → Slot → Bool
-announcesOf kind.Extra = anotherExtra
-announcesOf kind.Later = moreData
 
 module _ (right announces : Slot → Bool) (n : ℕ) where
   -- a slot at place j of n: right, and announcing another exactly if it is not the last
