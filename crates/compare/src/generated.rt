@@ -52,15 +52,21 @@ fn add(before: Tally, name: &[u8], first: u32, later: u8, extras: u8, flaws: u32
     tally::plus(before, found)
 }
 
-// All settings, in FORMAT.md's order.
-pub fn all() -> Tally
-    ensures { λ r. ⌜ Agreeing 3584 r ⌝ }
+// The settings whose packets are all within the limit, in FORMAT.md's order.
+fn within() -> Tally
+    ensures { λ r. ⌜ Agreeing 2048 r ⌝ }
 {
     let singles = add(tally::none(), b"singles", 0, 0, 0, 0);
     let extras = add(singles, b"extras", 512, 0, 4, 0);
     let data = add(extras, b"data", 1024, 17, 0, 0);
-    let both = add(data, b"both", 1536, 17, 4, 0);
-    let over = add(both, b"over", 2048, 18, 5, 0);
+    add(data, b"both", 1536, 17, 4, 0)
+}
+
+// All settings: behind those, packets over the limit, slots with flaws, and slots that stay as drawn.
+pub fn all() -> Tally
+    ensures { λ r. ⌜ Agreeing 3584 r ⌝ }
+{
+    let over = add(within(), b"over", 2048, 18, 5, 0);
     let flawed = add(over, b"flawed", 2560, 17, 4, 4);
     add(flawed, b"free", 3072, 17, 4, 256)
 }

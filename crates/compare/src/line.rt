@@ -1,9 +1,9 @@
 // The printed lines, written field by field.
 use crate::tally::Tally;
-use readers::Compared;
 use division::Divided;
 use division::Ending;
 use libc::STDOUT_FILENO;
+use readers::Compared;
 
 // Bytes as they are.
 fn text(bytes: &[u8]) {
@@ -37,15 +37,25 @@ fn end(answer: Divided) {
     }
 }
 
+// The fields that all lines share: whole slots, the cuts of each reader, and how many agreed.
+fn cuts(slots: usize, slow: usize, fast: usize, agreed: usize) {
+    number(b" slots ", slots);
+    number(b" slow ", slow);
+    number(b" fast ", fast);
+    number(b" agreed ", agreed);
+}
+
 // The line of a stored page.
 pub fn page(name: &[u8], slots: usize, compared: Compared) {
     let slow = compared.slow;
     let fast = compared.fast;
     text(name);
-    number(b" slots ", slots);
-    number(b" slow ", readers::count_of(slow));
-    number(b" fast ", readers::count_of(fast));
-    number(b" agreed ", compared.agreed);
+    cuts(
+        slots,
+        readers::count_of(slow),
+        readers::count_of(fast),
+        compared.agreed,
+    );
     text(b" ends");
     end(slow);
     end(fast);
@@ -59,19 +69,16 @@ pub fn refused(name: &[u8], why: &[u8]) {
 }
 
 // The fields that a setting's line and the last line share.
-fn cuts(all: Tally) {
+fn runs(all: Tally) {
     number(b" runs ", all.runs);
-    number(b" slots ", all.slots);
-    number(b" slow ", all.slow);
-    number(b" fast ", all.fast);
-    number(b" agreed ", all.agreed);
+    cuts(all.slots, all.slow, all.fast, all.agreed);
     number(b" alike ", all.alike);
 }
 
 // The line of a setting of the generator.
 pub fn setting(name: &[u8], all: Tally) {
     text(name);
-    cuts(all);
+    runs(all);
     number(b" empty ", all.empty);
     number(b" waiting ", all.waiting);
     number(b" misshapen ", all.misshapen);
@@ -83,6 +90,6 @@ pub fn setting(name: &[u8], all: Tally) {
 // The last line: all runs, stored and generated.
 pub fn total(all: Tally) {
     text(b"total");
-    cuts(all);
+    runs(all);
     text(b"\n");
 }

@@ -2,8 +2,8 @@
 ghost use mathlib.Core.Path.{_≡_};
 ghost use Rattle.compare.specs.Tally.{sumOf, Nothing, Together, Counted};
 use crate::answer;
-use readers::Compared;
 use division::Ending;
+use readers::Compared;
 
 // Runs, their whole slots, the cuts of each reader, how many agreed, how many runs ended alike, and how many ended in each way by
 // the slow reader.

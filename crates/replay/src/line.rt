@@ -43,19 +43,29 @@ pub fn begin(name: &[u8], ring: &[u8], consumed: u32) {
     number(b" consumed ", consumed);
 }
 
-// The ten words of a report, and the checksums of the frame and of the ring page.
-fn told(report: &[u32; 10], frame: u32, page: u32) {
+// The report's words that every answer has.
+fn outcome(report: &[u32; 10]) {
     number(b" answer ", report[0]);
     answer(report[0]);
     number(b" cause ", report[1]);
     number(b" place ", report[2]);
     number(b" slots ", report[3]);
     number(b" notify ", report[4]);
+}
+
+// Those of a call that is done.
+fn summary(report: &[u32; 10]) {
     number(b" total ", report[5]);
     number(b" blank ", report[6]);
     number(b" validated ", report[7]);
     number(b" gso ", report[8]);
     number(b" ", report[9]);
+}
+
+// The ten words of a report, and the checksums of the frame and of the ring page.
+fn told(report: &[u32; 10], frame: u32, page: u32) {
+    outcome(report);
+    summary(report);
     sum(b" frame ", frame);
     sum(b" page ", page);
 }

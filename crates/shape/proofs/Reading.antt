@@ -1,7 +1,7 @@
 -- The slow reader's code held against the shape of a packet: each way out of `link`, of the loop of `chain`, of `follow` and of
 -- `shaped` is one law.
-use mathlib.Core.Path.{_≡_, _∙_, ap}
-use mathlib.Core.Bool.{Bool, true, false, _&&_}
+use mathlib.Core.Path.{_≡_, _∙_, sym, ap}
+use mathlib.Core.Bool.{Bool, true, false, not, _&&_}
 use mathlib.Core.List.{List}
 use mathlib.Core.Logic.{⊎-elim}
 use Prim.Native.Nat.{ℕ, _+_, _-_, _≤_, _<_, suc, min}
@@ -10,6 +10,7 @@ use native.Mathlib.Numerals.{add-one}
 use lib.Dec.{ltb}
 use lib.ListN.{take, drop, drop-of-length-le}
 use lib.Seq.{take-all}
+use borrow.Author.Tests.{not-true, not-false}
 use Rattle.words.specs.Word.{bit}
 use Rattle.words.proofs.Word.{lt-or-ge}
 use Rattle.netif.specs.Slot.{Slot, moreData, isExtra, anotherExtra}
@@ -62,11 +63,13 @@ module _ (right announces : Slot → Bool) (n : ℕ) (bytes : List ℕ) (from co
       let z : count - j ≡ 0 = omega arith in
       rw z
 
-  pub asked-wrong : (j : ℕ) → j < count → linkAt right announces n j (slotIn bytes (from + j)) ≡ false → asked j ≡ false
-  asked-wrong j h w = rw (slots-next bytes from j count h, w)
+  -- r is what the slot's test gave
+  module _ (j : ℕ) (h : j < count) (r : Bool) (e : r ≡ linkAt right announces n j (slotIn bytes (from + j))) where
+    pub asked-wrong : not r ≡ true → asked j ≡ false
+    asked-wrong w = rw (slots-next bytes from j count h, ← e, not-true r w)
 
-  pub asked-next : (j : ℕ) → j < count → linkAt right announces n j (slotIn bytes (from + j)) ≡ true → asked j ≡ asked (j + 1)
-  asked-next j h w = rw (slots-next bytes from j count h, w, add-one)
+    pub asked-next : not r ≡ false → asked j ≡ asked (j + 1)
+    asked-next w = rw (slots-next bytes from j count h, ← e, not-false r w, add-one)
 
 -- ---- behind the first slot
 
@@ -92,14 +95,15 @@ module _ (bytes : List ℕ) (from count later extras seen : ℕ) (s : seen ≡ m
       slots-drop bytes extras count from h ∙ rw z)
       (lt-or-ge count extras)
 
-  pub follows-wrong : begun isExtra anotherExtra extras 0 (slotsIn bytes from seen) ≡ false → follows later extras (slotsIn bytes from count) ≡ false
-  unfolding follows
-  follows-wrong w = rw (seen-extras, w)
+  -- r is what the test of the extras gave, and b that of the later data slots
+  module _ (r : Bool) (e : r ≡ begun isExtra anotherExtra extras 0 (slotsIn bytes from seen)) where
+    pub follows-wrong : not r ≡ true → false ≡ follows later extras (slotsIn bytes from count)
+    unfolding follows
+    follows-wrong w = rw (seen-extras, ← e, not-true r w)
 
-  pub follows-right : begun isExtra anotherExtra extras 0 (slotsIn bytes from seen) ≡ true
-      → follows later extras (slotsIn bytes from count) ≡ begun isLater moreData later 0 (slotsIn bytes (from + seen) (count - seen))
-  unfolding follows
-  follows-right w = rw (seen-extras, w, seen-later)
+    pub follows-right : not r ≡ false → (b : Bool) → b ≡ begun isLater moreData later 0 (slotsIn bytes (from + seen) (count - seen)) → b ≡ follows later extras (slotsIn bytes from count)
+    unfolding follows
+    follows-right w b g = rw (seen-extras, ← e, not-false r w, seen-later) g
 
 -- ---- with the first slot
 
@@ -110,16 +114,17 @@ module _ (bytes : List ℕ) (at n later extras : ℕ) (some : 1 ≤ n) where
       let y : suc at ≡ at + 1 = omega arith in
       ap (λ k. shaped later extras (slotsIn bytes at k)) z ∙ rw y
 
-  module _ (r : DataSlot) (h : r ≡ dataOf (slotIn bytes at)) (x : Bool) (p : x ≡ bit 3 (r .flags)) where
-    pub shaped-no-extra : alike x (ltb 0 extras) ≡ false → shaped later extras (slotsIn bytes at n) ≡ false
+  -- x and m are the first slot's bits, t and u what comparing them gave, and b what was found of the slots behind
+  module _ (r : DataSlot) (h : r ≡ dataOf (slotIn bytes at)) (x : Bool) (p : x ≡ bit 3 (r .flags)) (t : Bool) (e : t ≡ alike x (ltb 0 extras)) where
+    pub shaped-no-extra : not t ≡ true → false ≡ shaped later extras (slotsIn bytes at n)
     unfolding leads
-    shaped-no-extra w = by-first ∙ rw (← follows-bit (slotIn bytes at) r h, ← p, w)
+    shaped-no-extra w = sym (by-first ∙ rw (← follows-bit (slotIn bytes at) r h, ← p, ← e, not-true t w))
 
-    module _ (w : alike x (ltb 0 extras) ≡ true) (m : Bool) (q : m ≡ bit 2 (r .flags)) where
-      pub shaped-no-more : alike m (ltb 0 later) ≡ false → shaped later extras (slotsIn bytes at n) ≡ false
+    module _ (w : not t ≡ false) (m : Bool) (q : m ≡ bit 2 (r .flags)) (u : Bool) (f : u ≡ alike m (ltb 0 later)) where
+      pub shaped-no-more : not u ≡ true → false ≡ shaped later extras (slotsIn bytes at n)
       unfolding leads
-      shaped-no-more v = by-first ∙ rw (← follows-bit (slotIn bytes at) r h, ← p, w, ← more-bit (slotIn bytes at) r h, ← q, v)
+      shaped-no-more v = sym (by-first ∙ rw (← follows-bit (slotIn bytes at) r h, ← p, ← e, not-false t w, ← more-bit (slotIn bytes at) r h, ← q, ← f, not-true u v))
 
-      pub shaped-behind : alike m (ltb 0 later) ≡ true → shaped later extras (slotsIn bytes at n) ≡ follows later extras (slotsIn bytes (at + 1) (n - 1))
+      pub shaped-behind : not u ≡ false → (b : Bool) → b ≡ follows later extras (slotsIn bytes (at + 1) (n - 1)) → b ≡ shaped later extras (slotsIn bytes at n)
       unfolding leads
-      shaped-behind v = by-first ∙ rw (← follows-bit (slotIn bytes at) r h, ← p, w, ← more-bit (slotIn bytes at) r h, ← q, v)
+      shaped-behind v b g = g ∙ sym (by-first ∙ rw (← follows-bit (slotIn bytes at) r h, ← p, ← e, not-false t w, ← more-bit (slotIn bytes at) r h, ← q, ← f, not-false u v))

@@ -3,7 +3,6 @@ use mathlib.Core.Path.{_≡_, sym, _∙_}
 use Prim.Native.Nat.{_-_, _≤_}
 use native.Mathlib.Omega.{arith}
 use borrow.Author.Needs.{needs}
-use borrow.Author.Tests.{not-true, not-false}
 use Rattle.division.specs.Run.{slotsIn}
 use Rattle.division.specs.Shape.{begun}
 use Rattle.shape.specs.Kinds.{rightOf, announcesOf}
@@ -34,7 +33,7 @@ returns c =
     let a = c .before .before .before .before .before .args in
     let l = c .before .before .before .loop in
     sym (l .inv .0 ∙ asked-wrong (rightOf (a .kind)) (announcesOf (a .kind)) (a .n) (a .run .now) (a .from) (a .count) (l .j) (c .before .before .loop-test .taken)
-    (sym (c .before .link .ensures) ∙ not-true _ (c .if1 .taken)))
+    _ (c .before .link .ensures) (c .if1 .taken))
 
 add-j : tie.Need-add-j Inv-loop μ-loop
 add-j c = search needs
@@ -46,7 +45,7 @@ loop-again : tie.Need-loop-again Inv-loop μ-loop
 loop-again c =
     let a = c .before .before .before .before .before .args in
     let l = c .before .before .before .loop in (
-      l .inv .0 ∙ asked-next (rightOf (a .kind)) (announcesOf (a .kind)) (a .n) (a .run .now) (a .from) (a .count) (l .j) (c .before .before .loop-test .taken) (sym (c .before .link .ensures) ∙ not-false _ (c .if1 .left)),
+      l .inv .0 ∙ asked-next (rightOf (a .kind)) (announcesOf (a .kind)) (a .n) (a .run .now) (a .from) (a .count) (l .j) (c .before .before .loop-test .taken) _ (c .before .link .ensures) (c .if1 .left),
       omega arith,
     )
 

@@ -1,9 +1,8 @@
 -- `shape::shaped` meets its contract: the first slot's two announcements, and then the slots behind it.
-use mathlib.Core.Path.{sym, ap, _∙_}
+use mathlib.Core.Path.{ap, _∙_}
 use native.Mathlib.Omega.{arith}
 use lib.ListN.{length}
 use borrow.Author.Needs.{needs}
-use borrow.Author.Tests.{not-true, not-false}
 use Rattle.netif.specs.Decode.{dataOf}
 use Rattle.division.proofs.Runs.{slot-length}
 use Rattle.shape.proofs.Reading.{shaped-no-extra, shaped-no-more, shaped-behind}
@@ -30,8 +29,8 @@ returns c =
     let d = x .before in
     let s = d .before .before .before in
     let a = s .args in
-    sym (shaped-no-extra (a .run .now) (a .at) (a .n) (a .later) (a .extras) (s .pre .1) (d .decode .result) (d .decode .ensures ∙ ap dataOf (d .before .slot .ensures))
-    (x .extra-follows .result) (x .extra-follows .ensures) (sym (c .before .alike .ensures) ∙ not-true _ (c .if1 .taken)))
+    shaped-no-extra (a .run .now) (a .at) (a .n) (a .later) (a .extras) (s .pre .1) (d .decode .result) (d .decode .ensures ∙ ap dataOf (d .before .slot .ensures))
+    (x .extra-follows .result) (x .extra-follows .ensures) _ (c .before .alike .ensures) (c .if1 .taken)
 
 more-data-requires : tie.Need-more-data-requires
 more-data-requires c κs = search needs
@@ -46,9 +45,9 @@ returns-2 c =
     let d = x .before in
     let s = d .before .before .before in
     let a = s .args in
-    sym (shaped-no-more (a .run .now) (a .at) (a .n) (a .later) (a .extras) (s .pre .1) (d .decode .result) (d .decode .ensures ∙ ap dataOf (d .before .slot .ensures))
-    (x .extra-follows .result) (x .extra-follows .ensures) (sym (m .before .before .alike .ensures) ∙ not-false _ (m .before .if1 .left))
-    (m .more-data .result) (m .more-data .ensures) (sym (c .before .alike2 .ensures) ∙ not-true _ (c .if2 .taken)))
+    shaped-no-more (a .run .now) (a .at) (a .n) (a .later) (a .extras) (s .pre .1) (d .decode .result) (d .decode .ensures ∙ ap dataOf (d .before .slot .ensures))
+    (x .extra-follows .result) (x .extra-follows .ensures) _ (m .before .before .alike .ensures) (m .before .if1 .left)
+    (m .more-data .result) (m .more-data .ensures) _ (c .before .alike2 .ensures) (c .if2 .taken)
 
 add-follow : tie.Need-add-follow
 add-follow c = search needs
@@ -66,10 +65,9 @@ returns-3 c =
     let d = x .before in
     let s = d .before .before .before in
     let a = s .args in
-    c .follow .ensures
-    ∙ sym (shaped-behind (a .run .now) (a .at) (a .n) (a .later) (a .extras) (s .pre .1) (d .decode .result) (d .decode .ensures ∙ ap dataOf (d .before .slot .ensures))
-    (x .extra-follows .result) (x .extra-follows .ensures) (sym (m .before .before .alike .ensures) ∙ not-false _ (m .before .if1 .left))
-    (m .more-data .result) (m .more-data .ensures) (sym (c .before .before .alike2 .ensures) ∙ not-false _ (c .before .if2 .left)))
+    shaped-behind (a .run .now) (a .at) (a .n) (a .later) (a .extras) (s .pre .1) (d .decode .result) (d .decode .ensures ∙ ap dataOf (d .before .slot .ensures))
+    (x .extra-follows .result) (x .extra-follows .ensures) _ (m .before .before .alike .ensures) (m .before .if1 .left)
+    (m .more-data .result) (m .more-data .ensures) _ (c .before .before .alike2 .ensures) (c .before .if2 .left) _ (c .follow .ensures)
 
 pub shaped-spec : {M : Type 1} → statement M
 shaped-spec =

@@ -43,7 +43,7 @@ returns c =
     let s = g .before .before .before .before .before in
     let a = s .args in
     shape-packet (l .later) (a .extras) (within-most (suc (l .later)) (a .extras) (omega arith) (s .pre .3)) (slotsIn (a .run .now) (a .at) (a .n))
-    (omega (arith, slots-length (a .run .now) (a .n) (a .at))) (sym (g .shaped .ensures) ∙ c .before .if2 .taken)
+    (omega (arith, slots-length (a .run .now) (a .n) (a .at))) (rw (g .shaped .ensures) at (c .before .if2 .taken))
 
 returns-2 : tie.Need-returns-2 Inv-loop μ-loop
 returns-2 c =
@@ -53,7 +53,7 @@ returns-2 c =
     let a = s .args in
     let k = slots-length (a .run .now) (a .n) (a .at) in
     shape-begins (l .later) (a .extras) (within-most (suc (l .later)) (a .extras) (omega arith) (s .pre .3)) (slotsIn (a .run .now) (a .at) (a .n))
-    (omega arith) (omega (arith, g .before .if1 .taken, c .if3 .left)) (sym (g .shaped .ensures) ∙ c .before .if2 .taken)
+    (omega arith) (omega (arith, g .before .if1 .taken, c .if3 .left)) (rw (g .shaped .ensures) at (c .before .if2 .taken))
 
 add-later : tie.Need-add-later Inv-loop μ-loop
 add-later c = search needs
