@@ -1,7 +1,8 @@
 -- `shape::slot` meets its contract: the part's end minus its start is the slot's width.
-use mathlib.Core.Path.{_≡_}
-use Prim.Native.Nat.{_+_, _-_, _*_}
+use mathlib.Core.Path.{_≡_, ap}
+use Prim.Native.Nat.{ℕ, _+_, _-_, _*_}
 use native.Mathlib.Omega.{arith}
+use lib.ListN.{take, drop}
 use borrow.Author.Needs.{needs}
 use Rattle.netif.specs.Slot.{slotWidth}
 use Rattle.division.specs.Run.{slotIn}
@@ -26,9 +27,10 @@ part-result-end c = search needs
 returns : tie.Need-returns
 unfolding slotIn
 returns c =
-    let i = c .before .args .i in
+    let a = c .before .args in
+    let i = a .i in
     let e : slotWidth * i + slotWidth - slotWidth * i ≡ slotWidth = omega arith in
-    rw e
+    ap (λ (k : ℕ). take k (drop (slotWidth * i) (a .run .now))) e
 
 pub slot-spec : {M : Type 1} → statement M
 slot-spec = tie.close (tie.spec mul-a add-b sub-result part-result-start part-result-end returns)
