@@ -3,3 +3,4 @@ pub mod Chains
 pub mod Shapes
 pub mod Cutting
 pub mod Agreement
+pub mod Numbers
