@@ -45,6 +45,13 @@ fn cuts(slots: usize, slow: usize, fast: usize, agreed: usize) {
     number(b" agreed ", agreed);
 }
 
+// How a run ended by each reader.
+fn ends(slow: Divided, fast: Divided) {
+    text(b" ends");
+    end(slow);
+    end(fast);
+}
+
 // The line of a stored page.
 pub fn page(name: &[u8], slots: usize, compared: Compared) {
     let slow = compared.slow;
@@ -56,9 +63,7 @@ pub fn page(name: &[u8], slots: usize, compared: Compared) {
         readers::count_of(fast),
         compared.agreed,
     );
-    text(b" ends");
-    end(slow);
-    end(fast);
+    ends(slow, fast);
     text(b"\n");
 }
 
@@ -75,15 +80,20 @@ fn runs(all: Tally) {
     number(b" alike ", all.alike);
 }
 
-// The line of a setting of the generator.
-pub fn setting(name: &[u8], all: Tally) {
-    text(name);
-    runs(all);
+// How many runs ended in each way.
+fn endings(all: Tally) {
     number(b" empty ", all.empty);
     number(b" waiting ", all.waiting);
     number(b" misshapen ", all.misshapen);
     number(b" uneven ", all.uneven);
     number(b" too-long ", all.too_long);
+}
+
+// The line of a setting of the generator.
+pub fn setting(name: &[u8], all: Tally) {
+    text(name);
+    runs(all);
+    endings(all);
     text(b"\n");
 }
 

@@ -42,7 +42,8 @@ pub record CutAs (run : List Slot) (before after : List ℕ) (r : Cuts) : Type 0
 abbrev pub DividedAs : List ℕ → (before after : List ℕ) → Divided → Type 0
 DividedAs bytes before after divided.Uneven = (length bytes % slotWidth ≢ 0) × (after ≡ before)
 DividedAs bytes before after divided.TooLong = (length bytes % slotWidth ≡ 0) × (slotCount < length bytes / slotWidth) × (after ≡ before)
-DividedAs bytes before after (divided.Cut r) = (length bytes % slotWidth ≡ 0) × (length bytes / slotWidth ≤ slotCount) × CutAs (runOf bytes) before after r
+DividedAs bytes before after (divided.Cut r) =
+    (length bytes % slotWidth ≡ 0) × (length bytes / slotWidth ≤ slotCount) × CutAs (runOf bytes) before after r
 
 -- what stands at the front of the slots that are left
 abbrev pub StepIs : List Slot → Step → Type 0

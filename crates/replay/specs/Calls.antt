@@ -18,7 +18,8 @@ abbrev pub mostCalls : ℕ
 mostCalls = slotCount + 1
 
 -- a transmit call, lent a frame buffer of zeros
-pub record TransmitCalled (grants window : List ℕ) (consumed mark : ℕ) (ring : List ℕ) (took : Bool) (consumedAfter markLeft : ℕ) (ringAfter : List ℕ) : Type 0 where
+pub record TransmitCalled (grants window : List ℕ) (consumed mark : ℕ) (ring : List ℕ) (took : Bool) (consumedAfter markLeft : ℕ)
+    (ringAfter : List ℕ) : Type 0 where
   pub answer : ℕ
   pub frame : List ℕ
   pub words : List ℕ
@@ -49,7 +50,8 @@ pub record FrameOf (call : ℕ) (frame : List ℕ) : Type 0 where
   pub bytes : Counted (7 * call + 1) (length frame) frame
 
 -- a receive call by its number
-pub record ReceiveCalled (grants : List ℕ) (call consumed mark : ℕ) (ring window : List ℕ) (took : Bool) (consumedAfter markLeft : ℕ) (ringAfter windowAfter : List ℕ) : Type 0 where
+pub record ReceiveCalled (grants : List ℕ) (call consumed mark : ℕ) (ring window : List ℕ) (took : Bool) (consumedAfter markLeft : ℕ)
+    (ringAfter windowAfter : List ℕ) : Type 0 where
   pub answer : ℕ
   pub frame : List ℕ
   pub words : List ℕ
