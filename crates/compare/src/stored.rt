@@ -29,7 +29,7 @@ fn take_slot(page: &[u8], n: u32, run: &mut [u8], i: usize)
 {
     let a = DataSlot::WIDTH * i;
     let b = a + DataSlot::WIDTH;
-    words::copy(
+    copying::copy(
         ring::slot(page, DataSlot::WIDTH, DataSlot::COUNT, n),
         &mut run[a..b],
     );

@@ -23,7 +23,7 @@ fn lay(run: &[u8], page: &mut [u8])
     ensures { λ _. ⌜ now (page .exit) ≡ splice (now (page .entry)) 64 (now (run .entry)) ⌝ }
 {
     let end = FIRST + run.len();
-    words::copy(run, &mut page[FIRST..end]);
+    copying::copy(run, &mut page[FIRST..end]);
 }
 
 // What stands at the front of the slots that are left on a page.

@@ -144,5 +144,5 @@ pub fn write(window: &mut [u8], page: u32, bytes: &[u8])
 {
     let a = PAGE * (page as usize);
     let b = a + bytes.len();
-    words::copy(bytes, &mut window[a..b]);
+    copying::copy(bytes, &mut window[a..b]);
 }

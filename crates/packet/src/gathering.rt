@@ -12,7 +12,7 @@ pub fn copy_part(window: &[u8], page: u32, offset: u16, size: u16, frame: &mut [
     ensures { λ _. ⌜ now (frame .exit) ≡ splice (now (frame .entry)) at (pagePart (now (window .entry)) page offset size) ⌝ }
 {
     let end = at + size as usize;
-    words::copy(
+    copying::copy(
         grant::lookup(window, page, offset, size),
         &mut frame[at..end],
     );

@@ -15,8 +15,8 @@ fn path_of(folder: &[u8], file: &[u8], path: &mut [u8]) -> usize
     if path.len() < n {
         return 0;
     }
-    words::copy(folder, path);
-    words::copy(file, &mut path[a..]);
+    copying::copy(folder, path);
+    copying::copy(file, &mut path[a..]);
     n
 }
 

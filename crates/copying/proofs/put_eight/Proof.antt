@@ -1,14 +1,15 @@
--- `words::put_eight` meets its contract. After j turns the first j bytes are written at the position.
+-- `copying::put_eight` meets its contract. After j turns the first j bytes are written at the position.
 use mathlib.Core.Path.{_≡_, refl, sym, ap, _∙_}
 use Prim.Native.Nat.{_+_, _-_, _≤_}
 use native.Mathlib.Omega.{arith}
 use lib.ListN.{length, take, set, getD, length-set}
 use lib.Seq.{take-all}
 use borrow.Author.Needs.{needs}
 use Rattle.words.specs.Word.{splice}
-use Rattle.words.proofs.Word.{splice-none, splice-next}
-use Rattle.words.proofs.put_eight.Statement.{statement}
-use Rattle.words.proofs.put_eight.Tie as tie
+use Rattle.words.proofs.Word.{splice-none}
+use Rattle.copying.proofs.Copied.{splice-next}
+use Rattle.copying.proofs.put_eight.Statement.{statement}
+use Rattle.copying.proofs.put_eight.Tie as tie
 
 abbrev Inv-loop : tie.InvT-loop
 Inv-loop b₀ at bytes j₀ b j = (j ≤ 8) × (length bytes ≡ 8) × (length b ≡ length b₀) × (b ≡ splice b₀ at (take j bytes))

@@ -1,13 +1,13 @@
--- `words::eight_at` meets its contract. After i turns `bytes` starts with the first i bytes at the position.
+-- `copying::eight_at` meets its contract. After i turns `bytes` starts with the first i bytes at the position.
 use mathlib.Core.Path.{_≡_, refl, sym, ap, _∙_}
 use Prim.Native.Nat.{_+_, _-_, _≤_}
 use native.Mathlib.Omega.{arith}
 use lib.ListN.{length, take, drop, set, length-drop, length-set}
 use lib.Seq.{getD-drop, take-all}
 use borrow.Author.Needs.{needs}
-use Rattle.words.proofs.Word.{held-more}
-use Rattle.words.proofs.eight_at.Statement.{statement}
-use Rattle.words.proofs.eight_at.Tie as tie
+use Rattle.copying.proofs.Copied.{held-more}
+use Rattle.copying.proofs.eight_at.Statement.{statement}
+use Rattle.copying.proofs.eight_at.Tie as tie
 
 abbrev Inv-loop : tie.InvT-loop
 Inv-loop b at bytes₀ i₀ bytes i = (i ≤ 8) × (length bytes ≡ 8) × (take i bytes ≡ take i (drop at b))

@@ -1,4 +1,4 @@
--- `words::copy` meets its contract. The passes copy the first 8 * (n / 8) bytes of src. Without a tail these are all; with one they reach
+-- `copying::copy` meets its contract. The passes copy the first 8 * (n / 8) bytes of src. Without a tail these are all; with one they reach
 -- the last eight, which were copied before. Fewer than eight bytes are copied one by one.
 use mathlib.Core.Path.{_≡_, ap, _∙_}
 use mathlib.Core.Logic.{⊎-elim}
@@ -7,10 +7,10 @@ use native.Mathlib.Omega.{arith}
 use lib.ListN.{length, take, drop, length-drop}
 use lib.Seq.{take-all}
 use borrow.Author.Needs.{needs}
 use Rattle.words.specs.Word.{splice}
-use Rattle.words.proofs.Word.{splice-whole}
-use Rattle.words.proofs.copy.Statement.{statement}
-use Rattle.words.proofs.copy.Tie as tie
+use Rattle.copying.proofs.Copied.{splice-whole}
+use Rattle.copying.proofs.copy.Statement.{statement}
+use Rattle.copying.proofs.copy.Tie as tie
 
 copy-short-requires : tie.Need-copy-short-requires
 copy-short-requires c κs = search needs

@@ -1,14 +1,14 @@
--- `words::copy_eights` meets its contract: what the first passes put at the front of `held` the second ones put at the front of dst.
+-- `copying::copy_eights` meets its contract: what the first passes put at the front of `held` the second ones put at the front of dst.
 use mathlib.Core.Path.{ap, _∙_}
 use Prim.Native.Nat.{_*_, _/_}
 use native.Mathlib.Omega.{arith}
 use lib.ListN.{length, take}
 use lib.Seq.{length-take-le}
 use borrow.Author.Needs.{needs}
 use Rattle.words.specs.Word.{splice}
-use Rattle.words.proofs.Word.{splice-front}
-use Rattle.words.proofs.copy_eights.Statement.{statement}
-use Rattle.words.proofs.copy_eights.Tie as tie
+use Rattle.copying.proofs.Copied.{splice-front}
+use Rattle.copying.proofs.copy_eights.Statement.{statement}
+use Rattle.copying.proofs.copy_eights.Tie as tie
 
 slice-aggregate-copy-passes : tie.Need-slice-aggregate-copy-passes
 slice-aggregate-copy-passes c = search needs

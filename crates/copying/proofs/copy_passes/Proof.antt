@@ -1,13 +1,14 @@
--- `words::copy_passes` meets its contract. After k passes the first 8 * k bytes of src are at the front of dst.
+-- `copying::copy_passes` meets its contract. After k passes the first 8 * k bytes of src are at the front of dst.
 use mathlib.Core.Path.{_≡_, refl, sym, ap, _∙_}
 use Prim.Native.Nat.{_+_, _-_, _*_, _≤_}
 use native.Mathlib.Omega.{arith}
 use lib.ListN.{length, take, drop}
 use borrow.Author.Needs.{needs}
 use Rattle.words.specs.Word.{splice}
-use Rattle.words.proofs.Word.{splice-none, splice-front-more}
-use Rattle.words.proofs.copy_passes.Statement.{statement}
-use Rattle.words.proofs.copy_passes.Tie as tie
+use Rattle.words.proofs.Word.{splice-none}
+use Rattle.copying.proofs.Copied.{splice-front-more}
+use Rattle.copying.proofs.copy_passes.Statement.{statement}
+use Rattle.copying.proofs.copy_passes.Tie as tie
 
 abbrev Inv-loop : tie.InvT-loop
 Inv-loop src dst₀ passes k₀ dst k = (k ≤ passes) × (length dst ≡ length dst₀) × (dst ≡ splice dst₀ 0 (take (8 * k) src))

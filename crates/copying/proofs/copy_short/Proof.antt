@@ -1,4 +1,4 @@
--- `words::copy_short` meets its contract. After i turns dst starts with the first i bytes of src, or with all of them where there are
+-- `copying::copy_short` meets its contract. After i turns dst starts with the first i bytes of src, or with all of them where there are
 -- fewer. A turn that copies is `splice-next`; one that does not finds all of src copied.
 use mathlib.Core.Path.{_≡_, refl, sym, ap, _∙_}
 use mathlib.Core.Logic.{⊎-elim}
@@ -7,10 +7,11 @@ use native.Mathlib.Omega.{arith}
 use lib.ListN.{length, take, set, getD, length-set}
 use lib.Seq.{take-all}
 use borrow.Author.Needs.{needs}
 use Rattle.words.specs.Word.{splice}
-use Rattle.words.proofs.Word.{splice-none, splice-next}
-use Rattle.words.proofs.copy_short.Statement.{statement}
-use Rattle.words.proofs.copy_short.Tie as tie
+use Rattle.words.proofs.Word.{splice-none}
+use Rattle.copying.proofs.Copied.{splice-next}
+use Rattle.copying.proofs.copy_short.Statement.{statement}
+use Rattle.copying.proofs.copy_short.Tie as tie
 
 abbrev Inv-loop : tie.InvT-loop
 Inv-loop src dst₀ n i₀ dst i = (i ≤ 7) × (length dst ≡ length dst₀) × (dst ≡ splice dst₀ 0 (take i src))
