@@ -59,6 +59,38 @@ when-at true false n p h = absurd (let z : _≡_ {A = ℕ} 0 1 = cc in omega ari
 when-at false b n p h = absurd (let z : _≡_ {A = ℕ} 0 1 = cc in omega arith)
 
 module _ (table window : List ℕ) (g : ℕ) where
+  -- ---- what the tests say
+
+  -- a fit grant has a word, its range lies in the page and its page in the window
+  module _ (fit : fitTransmit table window g ≡ true) where
+    fit-both : (hasWord table g && granted table g && rangeInPage table g ≡ true) × (usable window (pageOf table g) ≡ true)
+    unfolding fitTransmit
+    fit-both = and-both _ _ fit
+
+    pub fit-word : hasWord table g ≡ true
+    fit-word = and-both _ (granted table g) (and-both _ (rangeInPage table g) (fit-both .0) .0) .0
+
+    pub fit-granted : granted table g ≡ true
+    fit-granted = and-both (hasWord table g) _ (and-both _ (rangeInPage table g) (fit-both .0) .0) .1
+
+    pub fit-range : rangeEnd table g ≤ 4096
+    unfolding rangeInPage
+    fit-range = leb-true (rangeEnd table g) 4096 (and-both (hasWord table g && granted table g) _ (fit-both .0) .1)
+
+    pub fit-page : 4096 * pageOf table g + 4096 ≤ length window
+    unfolding usable
+    fit-page = leb-true (4096 * pageOf table g + 4096) (length window) (fit-both .1)
+
+  -- what is in range lies between the range's start and its end
+  module _ (offset n : ℕ) (h : inRange table g offset n ≡ true) where
+    range-from : rangeStart table g ≤ offset
+    unfolding inRange
+    range-from = leb-true (rangeStart table g) offset (and-both (leb (rangeStart table g) offset) _ h .0)
+
+    range-to : offset + n ≤ rangeEnd table g
+    unfolding inRange
+    range-to = leb-true (offset + n) (rangeEnd table g) (and-both (leb (rangeStart table g) offset) _ h .1)
+
   -- ---- the answer of `fit_to_read`, test by test
 
   pub no-word : length table < 8 * g + 8 → page.Unfit ≡ readPage table window g
@@ -97,26 +129,6 @@ module _ (table window : List ℕ) (g : ℕ) where
   pub read-unfit : page.Unfit ≡ readPage table window g → fitTransmit table window g ≡ false
   unfolding readPage
   read-unfit h = when-unfit (fitTransmit table window g) (pageOf table g) h
-
-  -- a fit grant has a word, its range lies in the page and its page in the window
-  module _ (fit : fitTransmit table window g ≡ true) where
-    fit-both : (hasWord table g && granted table g && rangeInPage table g ≡ true) × (usable window (pageOf table g) ≡ true)
-    unfolding fitTransmit
-    fit-both = and-both _ _ fit
-
-    pub fit-word : hasWord table g ≡ true
-    fit-word = and-both _ (granted table g) (and-both _ (rangeInPage table g) (fit-both .0) .0) .0
-
-    pub fit-granted : granted table g ≡ true
-    fit-granted = and-both (hasWord table g) _ (and-both _ (rangeInPage table g) (fit-both .0) .0) .1
-
-    pub fit-range : rangeEnd table g ≤ 4096
-    unfolding rangeInPage
-    fit-range = leb-true (rangeEnd table g) 4096 (and-both (hasWord table g && granted table g) _ (fit-both .0) .1)
-
-    pub fit-page : 4096 * pageOf table g + 4096 ≤ length window
-    unfolding usable
-    fit-page = leb-true (4096 * pageOf table g + 4096) (length window) (fit-both .1)
 
   -- ---- the answers above it
 
@@ -183,23 +195,15 @@ module _ (table window : List ℕ) (g : ℕ) where
 
   -- ---- parts
 
-  -- what is in range lies between the range's start and its end, and is a part of what the grant covers
+  -- what is in range is a part of what the grant covers
   module _ (offset n : ℕ) (h : inRange table g offset n ≡ true) where
-    range-from : rangeStart table g ≤ offset
-    unfolding inRange
-    range-from = leb-true (rangeStart table g) offset (and-both (leb (rangeStart table g) offset) _ h .0)
-
-    range-to : offset + n ≤ rangeEnd table g
-    unfolding inRange
-    range-to = leb-true (offset + n) (rangeEnd table g) (and-both (leb (rangeStart table g) offset) _ h .1)
-
     part-covered : windowPart table window g offset n ≡ take n (drop (offset - rangeStart table g) (rangeOf table window g))
     unfolding pagePart rangeEnd
     part-covered =
         let s = rangeStart table g in
         let a = 4096 * pageOf table g in
-        let f : s ≤ offset = range-from in
-        let e : offset + n ≤ s + rangeLength table g = range-to in
+        let f : s ≤ offset = range-from offset n h in
+        let e : offset + n ≤ s + rangeLength table g = range-to offset n h in
         ap (λ (i : ℕ). take n (drop i window)) {x = a + offset} {y = a + s + (offset - s)} (omega arith)
         ∙ sym (ap (take n) (drop-drop (offset - s) (a + s) window))
         ∙ sym (part-part (offset - s) n (rangeLength table g) (drop (a + s) window) (omega arith))
@@ -207,7 +211,7 @@ module _ (table window : List ℕ) (g : ℕ) where
     module _ (fit : fitTransmit table window g ≡ true) where
       -- in a fit grant it lies in the page
       pub range-page : offset + n ≤ 4096
-      range-page = omega (arith, range-to, fit-range fit)
+      range-page = omega (arith, range-to offset n h, fit-range fit)
 
       -- and is as long as asked
       pub part-length : length (windowPart table window g offset n) ≡ n
@@ -218,7 +222,7 @@ module _ (table window : List ℕ) (g : ℕ) where
           simp (length-take, length-drop) (omega arith)
 
       pub part-within : WithinGrant table window g offset n (windowPart table window g offset n)
-      part-within = record { starts = range-from; ends = range-to; inPage = fit-range fit; covered = part-covered }
+      part-within = record { starts = range-from offset n h; ends = range-to offset n h; inPage = fit-range fit; covered = part-covered }
 
 -- the lookup's promise
 pub looked-up : (window : List ℕ) (p offset n : ℕ) (bytes : List ℕ) → bytes ≡ pagePart window p offset n → LookedUp window p offset n bytes

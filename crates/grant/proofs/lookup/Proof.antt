@@ -1,8 +1,9 @@
 -- `lookup` meets its contract: the part's end minus its start is its size, and by `looked-up` it is granted.
 use borrow.Author.Needs.{needs}
-use mathlib.Core.Path.{_≡_}
-use Prim.Native.Nat.{_+_, _-_, _*_}
+use mathlib.Core.Path.{_≡_, ap}
+use Prim.Native.Nat.{ℕ, _+_, _-_, _*_}
 use native.Mathlib.Omega.{arith}
+use lib.ListN.{take, drop}
 use Rattle.grant.specs.Grant.{pagePart}
 use Rattle.grant.proofs.Grant.{looked-up}
 use Rattle.grant.proofs.lookup.Statement.{statement}
@@ -31,7 +32,7 @@ unfolding pagePart
 returns c =
     let a = c .before .args in
     let e : 4096 * a .page + a .offset + a .size - (4096 * a .page + a .offset) ≡ a .size = omega arith in
-    looked-up (a .window .now) (a .page) (a .offset) (a .size) _ (rw e)
+    looked-up (a .window .now) (a .page) (a .offset) (a .size) _ (ap (λ (k : ℕ). take k (drop (4096 * a .page + a .offset) (a .window .now))) e)
 
 pub lookup-spec : {M : Type 1} → statement M
 lookup-spec =

@@ -1,8 +1,9 @@
 -- `slot` meets its contract: the part's end minus its start is the slot's width.
 use borrow.Author.Needs.{needs}
-use mathlib.Core.Path.{_≡_}
-use Prim.Native.Nat.{_+_, _-_}
+use mathlib.Core.Path.{_≡_, ap, _∙_}
+use Prim.Native.Nat.{ℕ, _+_, _-_}
 use native.Mathlib.Omega.{arith}
+use lib.ListN.{take, drop}
 use Rattle.ring.specs.Ring.{slotAt}
 use Rattle.ring.proofs.Ring.{place-fits}
 use Rattle.ring.proofs.slot.Statement.{statement}
@@ -28,7 +29,8 @@ unfolding slotAt
 returns c =
     let a = c .before .before .before .args in
     let e : c .before .place .result + a .width - c .before .place .result ≡ a .width = omega arith in
-    rw (e, c .before .place .ensures)
+    ap (λ (k : ℕ). take k (drop (c .before .place .result) (a .page .now))) e
+    ∙ ap (λ (p : ℕ). take (a .width) (drop p (a .page .now))) (c .before .place .ensures)
 
 pub slot-spec : {M : Type 1} → statement M
 slot-spec =
