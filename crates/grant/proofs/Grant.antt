@@ -13,7 +13,7 @@ use Rattle.words.specs.Word.{u32At, bit}
 use Rattle.words.proofs.Word.{and-both}
 use Rattle.words.proofs.Lists.{part-part}
 use Rattle.grant.specs.Grant.{hasWord, wordBits, granted, writable, usable, pageOf, rangeStart, rangeLength, rangeEnd, rangeInPage, wholePage, inRange, fitTransmit, fitReceive, pagePart, windowPart, rangeOf}
-use Rattle.grant.specs.Found.{readPage, writePage, sourceOf, WithinGrant, LookedUp}
+use Rattle.grant.specs.Found.{readPage, writePage, sourceOf, pageCause, sourceCause, WithinGrant, LookedUp}
 use Rattle.grant.specs.declared.Page.the-variants as page
 use Rattle.grant.specs.declared.Source.the-variants as source
 
@@ -192,6 +192,25 @@ module _ (table window : List ℕ) (g : ℕ) where
     pub found-at : (p : ℕ) → source.At p ≡ sourceOf table window g offset n → (fitTransmit table window g ≡ true) × (inRange table g offset n ≡ true) × (p ≡ pageOf table g)
     unfolding sourceOf
     found-at p h = when-at (fitTransmit table window g) (inRange table g offset n) (pageOf table g) p h
+
+  -- ---- the causes of the answers: 4 where the grant is not fit, then 5 where its range does not have the part
+
+  pub write-cause : pageCause (writePage table window g) ≡ cond (fitReceive table window g) 0 4
+  unfolding writePage
+  write-cause = go (fitReceive table window g)
+    where
+      go : (f : Bool) → pageCause (cond f (page.Fit (pageOf table g)) page.Unfit) ≡ cond f 0 4
+      go true = refl
+      go false = refl
+
+  pub source-cause : (offset n : ℕ) → sourceCause (sourceOf table window g offset n) ≡ cond (fitTransmit table window g) (cond (inRange table g offset n) 0 5) 4
+  unfolding sourceOf
+  source-cause offset n = go (fitTransmit table window g) (inRange table g offset n)
+    where
+      go : (f b : Bool) → sourceCause (cond f (cond b (source.At (pageOf table g)) source.Outside) source.Unfit) ≡ cond f (cond b 0 5) 4
+      go true true = refl
+      go true false = refl
+      go false b = refl
 
   -- ---- parts
 

@@ -25,6 +25,16 @@ module _ (table window : List ℕ) (g : ℕ) where
       (cond (inRange table g offset n) (source.At (pageOf table g)) source.Outside)
       source.Unfit
 
+-- document 01's number of the cause for 7 that each answer tells, 0 where it tells none
+abbrev pub pageCause : Page → ℕ
+pageCause (page.Fit p) = 0
+pageCause page.Unfit = 4
+
+abbrev pub sourceCause : Source → ℕ
+sourceCause (source.At p) = 0
+sourceCause source.Unfit = 4
+sourceCause source.Outside = 5
+
 -- n bytes that stand from an offset of a page on are within what reference g grants: they lie between the start and the end of its
 -- range, and that in the page, and they are a part of what it covers
 pub record WithinGrant (table window : List ℕ) (g offset n : ℕ) (bytes : List ℕ) : Type 0 where
