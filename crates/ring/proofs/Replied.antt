@@ -9,10 +9,11 @@ use lib.ListN.{length, take, getD}
 use lib.Seq.{length-take-le, take-suc}
 use Rattle.words.specs.Word.{splice}
 use Rattle.words.proofs.Word.{u32-same}
-use Rattle.ring.specs.Ring.{wrap, wadd, producerAt, notify, slotPlace, slotAt, slotsFrom, withReplies}
+use Rattle.ring.specs.Ring.{wrap, wadd, producerAt, withProducer, notify, slotPlace, slotAt, slotsFrom, withReplies}
 use Rattle.ring.specs.declared.Side.{Side}
-use Rattle.ring.proofs.Facts.{producer-low}
-use Rattle.ring.proofs.Ring.{slot-wrap, place-wrap, replies-more, Short, short-take, replies-slot, replies-header}
+use Rattle.ring.specs.declared.Side.the-variants.{Replies}
+use Rattle.ring.proofs.Facts.{producer-low, producer-leaves-slot}
+use Rattle.ring.proofs.Ring.{slot-wrap, place-wrap, replies-more, Short, short-take, replies-length, replies-slot, replies-header, replies-here}
 
 -- ---- the counter i slots on
 
@@ -49,6 +50,16 @@ module _ (w n : ℕ) (some : 0 < n) (turn : wrap % n ≡ 0) (page : List ℕ) (f
       ∙ rw (place-ahead w n turn page first m i a, b, p) refl
       ∙ sym (rw e at (replies-more w n (take i rs) page first (getD rs i [])))
       ∙ rw (add-one i, take-suc rs i [] h)
+
+-- with rsp_prod moved, reply j stands in the first bytes of its slot, and the slot's others stay
+pub reply-stands : (w n : ℕ) → 0 < n → (page : List ℕ) → 64 + w * n ≤ length page → (first : ℕ) (rs : List (List ℕ)) → Short w rs → length rs ≤ n
+    → (new j : ℕ) → j < length rs → (r : List ℕ) → getD rs j [] ≡ r
+    → slotAt w n (withProducer Replies (withReplies w n page first rs) new) (first + j) ≡ splice (slotAt w n page (first + j)) 0 r
+reply-stands w n some page fits first rs short few new j h r e =
+    let size : length (withReplies w n page first rs) ≡ length page = replies-length w n some rs page first fits short in
+    producer-leaves-slot (withReplies w n page first rs) (omega arith) Replies new w n some (omega arith) (first + j)
+    ∙ replies-here w n some rs page first fits short few j h
+    ∙ ap (splice (slotAt w n page (first + j)) 0) e
 
 -- what is written to slots leaves both sides' wishes for an event
 pub notify-replied : (w n : ℕ) → 0 < n → (page : List ℕ) → 64 + w * n ≤ length page → (first : ℕ) (rs : List (List ℕ)) → Short w rs

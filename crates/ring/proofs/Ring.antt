@@ -1,7 +1,7 @@
 -- The laws of the ring page, over the slot's width and the number of slots.
 use mathlib.Core.Path.{_≡_, refl, sym, ap, _∙_}
 use mathlib.Core.Logic.{_≢_, _⊎_, inl, inr, ⊎-elim}
-use mathlib.Core.List.{List, [], _∷_, _++_}
+use mathlib.Core.List.{List, [], _∷_, _++_, map}
 use Prim.Native.Nat.{ℕ, zero, suc, _+_, _*_, _/_, _%_, _≤_, _<_}
 use native.Mathlib.Nat.{add-mod-right, mul-le-mul-left, div-add-mod, mod-lt, suc-mod, mod-mod-of-dvd, dvd-of-mod-eq-zero, zero-add, add-zero, suc-add, add-suc, add-assoc}
 use native.Mathlib.Omega.{arith}
@@ -125,6 +125,14 @@ module _ (w n : ℕ) where
 abbrev pub Short : ℕ → List (List ℕ) → Type 0
 Short w [] = Unit {0}
 Short w (r ∷ rs) = (length r ≤ w) × Short w rs
+
+pub short-map : {A : Type 0} (w : ℕ) (f : A → List ℕ) → ((x : A) → length (f x) ≤ w) → (l : List A) → Short w (map f l)
+short-map w f h [] = tt
+short-map w f h (x ∷ l) = (h x, short-map w f h l)
+
+pub short-append : (w : ℕ) (a b : List (List ℕ)) → Short w a → Short w b → Short w (a ++ b)
+short-append w [] b h k = k
+short-append w (r ∷ a) b h k = (h .0, short-append w a b (h .1) k)
 
 pub short-take : (w : ℕ) (rs : List (List ℕ)) (i : ℕ) → Short w rs → Short w (take i rs)
 short-take w rs zero h = tt
