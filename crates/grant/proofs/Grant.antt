@@ -10,7 +10,7 @@ use lib.Seq.{drop-drop}
 use lib.Dec.{leb, eqb}
 use borrow.Author.Tests.{leb-true, le-leb, lt-leb, eqb-true, eq-eqb}
 use Rattle.words.specs.Word.{u32At, bit}
-use Rattle.words.proofs.Word.{and-both}
+use Rattle.words.proofs.Word.{no-confusion, and-both}
 use Rattle.words.proofs.Lists.{part-part}
 use Rattle.grant.specs.Grant.{hasWord, wordBits, granted, writable, usable, pageOf, rangeStart, rangeLength, rangeEnd, rangeInPage, wholePage, inRange, fitTransmit, fitReceive, pagePart, windowPart, rangeOf}
 use Rattle.grant.specs.Found.{readPage, writePage, sourceOf, pageCause, sourceCause, WithinGrant, LookedUp}
@@ -23,10 +23,10 @@ and-false false = refl
 
 when-fit : (b : Bool) (n p : ℕ) → page.Fit p ≡ cond b (page.Fit n) page.Unfit → (b ≡ true) × (p ≡ n)
 when-fit true n p h = (refl, (cc))
-when-fit false n p h = absurd (let z : _≡_ {A = ℕ} 0 1 = cc in omega arith)
+when-fit false n p h = no-confusion cc
 
 when-unfit : (b : Bool) (n : ℕ) → page.Unfit ≡ cond b (page.Fit n) page.Unfit → b ≡ false
-when-unfit true n h = absurd (let z : _≡_ {A = ℕ} 0 1 = cc in omega arith)
+when-unfit true n h = no-confusion cc
 when-unfit false n h = refl
 
 -- a reference that has a word: the word lies in the table
@@ -44,19 +44,19 @@ whole-length table g h = go (eqb (rangeLength table g) 4096) refl
     go false k = sym (and-false (eqb (rangeStart table g) 0))
 
 when-no-source : (f b : Bool) (p : ℕ) → source.Unfit ≡ cond f (cond b (source.At p) source.Outside) source.Unfit → f ≡ false
-when-no-source true true p h = absurd (let z : _≡_ {A = ℕ} 0 1 = cc in omega arith)
-when-no-source true false p h = absurd (let z : _≡_ {A = ℕ} 0 1 = cc in omega arith)
+when-no-source true true p h = no-confusion cc
+when-no-source true false p h = no-confusion cc
 when-no-source false b p h = refl
 
 when-outside : (f b : Bool) (p : ℕ) → source.Outside ≡ cond f (cond b (source.At p) source.Outside) source.Unfit → (f ≡ true) × (b ≡ false)
-when-outside true true p h = absurd (let z : _≡_ {A = ℕ} 0 1 = cc in omega arith)
+when-outside true true p h = no-confusion cc
 when-outside true false p h = (refl, refl)
-when-outside false b p h = absurd (let z : _≡_ {A = ℕ} 0 1 = cc in omega arith)
+when-outside false b p h = no-confusion cc
 
 when-at : (f b : Bool) (n p : ℕ) → source.At p ≡ cond f (cond b (source.At n) source.Outside) source.Unfit → (f ≡ true) × (b ≡ true) × (p ≡ n)
 when-at true true n p h = (refl, refl, (cc))
-when-at true false n p h = absurd (let z : _≡_ {A = ℕ} 0 1 = cc in omega arith)
-when-at false b n p h = absurd (let z : _≡_ {A = ℕ} 0 1 = cc in omega arith)
+when-at true false n p h = no-confusion cc
+when-at false b n p h = no-confusion cc
 
 module _ (table window : List ℕ) (g : ℕ) where
   -- ---- what the tests say

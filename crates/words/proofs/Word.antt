@@ -19,13 +19,17 @@ lt-or-ge a zero = inr (omega arith)
 lt-or-ge zero (suc b) = inl (omega arith)
 lt-or-ge (suc a) (suc b) = ⊎-elim (λ h. inl (omega arith)) (λ h. inr (omega arith)) (lt-or-ge a b)
 
+-- anything follows where 0 is 1; `cc` shows it wherever two different constructors are said to be equal
+pub no-confusion : {A : Type 0} → _≡_ {A = ℕ} 0 1 → A
+no-confusion h = absurd (omega arith)
+
 -- of a test that is two tests
 pub and-both : (a b : Bool) → a && b ≡ true → (a ≡ true) × (b ≡ true)
 and-both true b h = (refl, h)
-and-both false b h = absurd (let z : _≡_ {A = ℕ} 0 1 = cc in omega arith)
+and-both false b h = no-confusion cc
 
 pub or-none : (a b : Bool) → a || b ≡ false → (a ≡ false) × (b ≡ false)
-or-none true b h = absurd (let z : _≡_ {A = ℕ} 0 1 = cc in omega arith)
+or-none true b h = no-confusion cc
 or-none false b h = (refl, h)
 
 -- ---- splice
