@@ -1,6 +1,5 @@
 -- `range_end` meets its contract: the start and the length, added.
 use borrow.Author.Needs.{needs}
-use native.Mathlib.Omega.{arith}
 use Rattle.grant.specs.Grant.{rangeEnd}
 use Rattle.grant.proofs.range_end.Statement.{statement}
 use Rattle.grant.proofs.range_end.Tie as tie
