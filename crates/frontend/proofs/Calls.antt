@@ -10,7 +10,7 @@ use lib.Dec.{ltb, eqb}
 use borrow.Author.Tests.{eq-eqb, lt-ltb, le-ltb, ltb-false, not-false}
 use Rattle.words.specs.Word.{splice}
 use Rattle.words.proofs.Word.{or-none}
-use Rattle.ring.specs.Ring.{wadd, reqProd, notify, ProducerMoved, slotPlace, withReplies, withProducer, withPosted}
+use Rattle.ring.specs.Ring.{wadd, reqProd, notify, ProducerMoved, slotPlace, withSlots, withProducer, withPosted}
 use Rattle.ring.specs.declared.Side.the-variants.{Requests}
 use Rattle.ring.proofs.Ring.{replies-append}
 use Rattle.ring.proofs.Posting.{replies-wadd, whole-short}
@@ -43,10 +43,10 @@ module _ (page : List ℕ) (size : length page ≡ 4096) (o : Gso) (g : ℕ) (l 
 
   module _ (p1 p2 p3 : List ℕ) (old n1 n2 new : ℕ) (at : old ≡ reqProd page)
       (w1 : p1 ≡ splice page (slotPlace 12 256 old) (dataFor old g fl (length frame)))
-      (a1 : n1 ≡ wadd old 1) (w2 : p2 ≡ withReplies 12 256 p1 n1 (extrasFor o))
-      (a2 : n2 ≡ wadd old (1 + e)) (w3 : p3 ≡ withReplies 12 256 p2 n2 (laterFor n2 l (drop 4096 frame)))
+      (a1 : n1 ≡ wadd old 1) (w2 : p2 ≡ withSlots 12 256 p1 n1 (extrasFor o))
+      (a2 : n2 ≡ wadd old (1 + e)) (w3 : p3 ≡ withSlots 12 256 p2 n2 (laterFor n2 l (drop 4096 frame)))
       (a4 : new ≡ wadd old (count + e)) where
-    slots-written : p3 ≡ withReplies 12 256 page (reqProd page) p
+    slots-written : p3 ≡ withSlots 12 256 page (reqProd page) p
     slots-written =
         let first : dataFor old g fl (length frame) ≡ dataFor (reqProd page) g (flagsFor (others l) (ltb 0 (gsoExtras o))) (length frame)
         = rw (at, flagged, extras, more-later l count counts) refl in
@@ -56,15 +56,15 @@ module _ (page : List ℕ) (size : length page ≡ 4096) (o : Gso) (g : ℕ) (l 
         let z1 : c + 1 ≡ suc c = omega arith in
         let z2 : c + (1 + gsoExtras o) ≡ suc c + gsoExtras o = omega arith in
         let z3 : suc c + length (extrasFor o) ≡ suc c + gsoExtras o = ap (suc c +_) (extras-count o) in
-        let q2 : p2 ≡ withReplies 12 256 p1 (suc c) (extrasFor o) = w2 ∙ rw (a1, at) (replies-wadd 12 256 refl (extrasFor o) p1 c 1) ∙ ap (λ (x : ℕ). withReplies 12 256 p1 x (extrasFor o)) z1 in
-        let q3 : p3 ≡ withReplies 12 256 p2 (suc c + gsoExtras o) (laterFor (suc c + gsoExtras o) l (drop 4096 frame))
+        let q2 : p2 ≡ withSlots 12 256 p1 (suc c) (extrasFor o) = w2 ∙ rw (a1, at) (replies-wadd 12 256 refl (extrasFor o) p1 c 1) ∙ ap (λ (x : ℕ). withSlots 12 256 p1 x (extrasFor o)) z1 in
+        let q3 : p3 ≡ withSlots 12 256 p2 (suc c + gsoExtras o) (laterFor (suc c + gsoExtras o) l (drop 4096 frame))
         = w3 ∙ rw (a2, at, extras, later-wadd l (drop 4096 frame) c (1 + gsoExtras o)) (replies-wadd 12 256 refl (laterFor (c + (1 + gsoExtras o)) l (drop 4096 frame)) p2 c (1 + gsoExtras o))
-        ∙ ap (λ (x : ℕ). withReplies 12 256 p2 x (laterFor x l (drop 4096 frame))) z2 in
+        ∙ ap (λ (x : ℕ). withSlots 12 256 p2 x (laterFor x l (drop 4096 frame))) z2 in
         q3
-        ∙ ap (λ (x : List ℕ). withReplies 12 256 x (suc c + gsoExtras o) (laterFor (suc c + gsoExtras o) l (drop 4096 frame))) q2
-        ∙ ap (λ (x : ℕ). withReplies 12 256 (withReplies 12 256 p1 (suc c) (extrasFor o)) x (laterFor (suc c + gsoExtras o) l (drop 4096 frame))) (sym z3)
+        ∙ ap (λ (x : List ℕ). withSlots 12 256 x (suc c + gsoExtras o) (laterFor (suc c + gsoExtras o) l (drop 4096 frame))) q2
+        ∙ ap (λ (x : ℕ). withSlots 12 256 (withSlots 12 256 p1 (suc c) (extrasFor o)) x (laterFor (suc c + gsoExtras o) l (drop 4096 frame))) (sym z3)
         ∙ sym (replies-append 12 256 (extrasFor o) (laterFor (suc c + gsoExtras o) l (drop 4096 frame)) p1 (suc c))
-        ∙ ap (λ (x : List ℕ). withReplies 12 256 x (suc c) (extrasFor o ++ laterFor (suc c + gsoExtras o) l (drop 4096 frame))) q1
+        ∙ ap (λ (x : List ℕ). withSlots 12 256 x (suc c) (extrasFor o ++ laterFor (suc c + gsoExtras o) l (drop 4096 frame))) q1
 
     moved : new ≡ wadd (reqProd page) (length p)
     moved = a4 ∙ rw (at, extras, ← counts, packet-count (reqProd page) o g l frame) refl

@@ -12,7 +12,7 @@ use lib.Dec.{ltb}
 use borrow.Author.Tests.{lt-ltb}
 use Rattle.words.specs.Word.{u16Bytes, u32Bytes, splice}
 use Rattle.words.proofs.Word.{splice-join}
-use Rattle.ring.specs.Ring.{wrap, wadd, slotPlace, withReplies}
+use Rattle.ring.specs.Ring.{wrap, wadd, slotPlace, withSlots}
 use Rattle.ring.proofs.Ring.{place-fits}
 use Rattle.ring.proofs.Replied.{place-ahead}
 use Rattle.receive.proofs.Pieces.{follows}
@@ -83,7 +83,7 @@ module _ (refs frame : List ℕ) (count : ℕ) (enough : count ≤ length refs) 
 
   -- what is left of the loop from reference i on
   abbrev pub leftLater : List ℕ → ℕ → List ℕ
-  leftLater ring i = withReplies 12 256 ring (first + (i - 1)) (laterFor (first + (i - 1)) (drop i l) (drop (4096 * i) frame))
+  leftLater ring i = withSlots 12 256 ring (first + (i - 1)) (laterFor (first + (i - 1)) (drop i l) (drop (4096 * i) frame))
 
   pub later-next : (ring next : List ℕ) (i n fl m : ℕ) → 1 ≤ i → i < count → n ≡ wadd first (i - 1) → fl ≡ flagsFor (ltb (i + 1) count) false → m ≡ min 4096 (length frame - 4096 * i)
       → next ≡ splice ring (slotPlace 12 256 n) (dataFor n (getD refs i 0) fl m) → leftLater ring i ≡ leftLater next (i + 1)
@@ -100,12 +100,12 @@ module _ (refs frame : List ℕ) (count : ℕ) (enough : count ≤ length refs) 
       = rw (g, o, ← f, size, a) (sym (data-mod (k % wrap) k (getD refs i 0) fl m (lap-id k))) in
       let place : slotPlace 12 256 k ≡ slotPlace 12 256 n = sym (place-ahead 12 256 refl ring first n (i - 1) a) in
       let cut : drop i l ≡ getD l i 0 ∷ drop (i + 1) l = drop-cons l i 0 (omega (arith, used)) ∙ ap (λ (x : ℕ). getD l i 0 ∷ drop x l) (sym (add-one i)) in
-      ap (λ (x : List ℕ). withReplies 12 256 ring k (laterFor k x (drop (4096 * i) frame))) cut
-      ∙ (λ j. withReplies 12 256 (splice ring (place j) (slot j)) (suc k) (laterFor (suc k) (drop (i + 1) l) (rest j)))
-      ∙ (λ j. withReplies 12 256 (sym q j) (sym z j) (laterFor (sym z j) (drop (i + 1) l) (drop (4096 * (i + 1)) frame)))
+      ap (λ (x : List ℕ). withSlots 12 256 ring k (laterFor k x (drop (4096 * i) frame))) cut
+      ∙ (λ j. withSlots 12 256 (splice ring (place j) (slot j)) (suc k) (laterFor (suc k) (drop (i + 1) l) (rest j)))
+      ∙ (λ j. withSlots 12 256 (sym q j) (sym z j) (laterFor (sym z j) (drop (i + 1) l) (drop (4096 * (i + 1)) frame)))
 
   pub later-last : (ring : List ℕ) (i : ℕ) → count ≤ i → leftLater ring i ≡ ring
   later-last ring i h = rw (drop-of-length-le l {i = i} (omega (arith, used))) refl
 
-  pub later-first : (ring : List ℕ) → withReplies 12 256 ring first (laterFor first (drop 1 l) (drop 4096 frame)) ≡ leftLater ring 1
+  pub later-first : (ring : List ℕ) → withSlots 12 256 ring first (laterFor first (drop 1 l) (drop 4096 frame)) ≡ leftLater ring 1
   later-first ring = let z : first + (1 - 1) ≡ first = add-zero first in rw z refl

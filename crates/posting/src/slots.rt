@@ -4,7 +4,7 @@ ghost use mathlib.Core.Bool.{false};
 ghost use Prim.Native.Nat.{_+_, _*_, _≤_};
 ghost use lib.ListN.{length, take, drop};
 ghost use Rattle.words.specs.Word.{splice};
-ghost use Rattle.ring.specs.Ring.{pageSize, slotPlace, withReplies};
+ghost use Rattle.ring.specs.Ring.{pageSize, slotPlace, withSlots};
 ghost use Rattle.netif.specs.Slot.{slotWidth, slotCount};
 ghost use Rattle.netif.specs.Encode.{extraBytes};
 ghost use Rattle.frontend.specs.Post.{flagsFor, dataFor, laterFor, extrasFor, freeSlots};
@@ -92,7 +92,7 @@ fn put_later(ring: &mut [u8], first: u32, references: &[u32], count: u32, frame:
         × (count ≤ length (now references))
         × (4096 * count ≤ length (now frame) + 4095) ⌝ }
     ensures { λ _. ⌜
-        now (ring .exit) ≡ withReplies slotWidth slotCount (now (ring .entry)) first
+        now (ring .exit) ≡ withSlots slotWidth slotCount (now (ring .entry)) first
         (laterFor first (drop 1 (take count (now (references .entry)))) (drop 4096 (now (frame .entry)))) ⌝ }
 {
     let mut i: u32 = 1;
@@ -112,7 +112,7 @@ fn put_later(ring: &mut [u8], first: u32, references: &[u32], count: u32, frame:
 // Writes the extra that gso needs, if any, at a counter.
 fn put_extras(ring: &mut [u8], n: u32, gso: Gso)
     requires { ⌜ length (now ring) ≡ pageSize ⌝ }
-    ensures { λ _. ⌜ now (ring .exit) ≡ withReplies slotWidth slotCount (now (ring .entry)) n (extrasFor gso) ⌝ }
+    ensures { λ _. ⌜ now (ring .exit) ≡ withSlots slotWidth slotCount (now (ring .entry)) n (extrasFor gso) ⌝ }
 {
     match gso {
         Gso::Absent => {}

@@ -10,7 +10,7 @@ use lib.Seq.{take-all}
 use lib.Dec.{ltb, eqb}
 use borrow.Author.Tests.{lt-ltb, le-ltb, ltb-false}
 use Rattle.words.specs.Word.{splice}
-use Rattle.ring.specs.Ring.{wadd, notify, ProducerMoved, slotPlace, slotAt, posted, asking, withProducer, withReplies}
+use Rattle.ring.specs.Ring.{wadd, notify, ProducerMoved, slotPlace, slotAt, posted, asking, withProducer, withSlots}
 use Rattle.ring.specs.declared.Side.the-variants.{Replies}
 use Rattle.ring.proofs.Ring.{slots-length}
 use Rattle.grant.specs.Grant.{withPage}
@@ -56,7 +56,7 @@ module _ (old count : ℕ) (page : List ℕ) (size : length page ≡ 4096) (few 
   all : count ≡ length (requestsFrom page old count)
   all = sym (slots-length 8 256 page count old)
 
-  pub refused : (new : ℕ) → new ≡ wadd old count → (cause place : ℕ) (mid last : List ℕ) (notifies : Bool) (r : Outcome) → mid ≡ withReplies 8 256 page old (errorReplies (requestsFrom page old count))
+  pub refused : (new : ℕ) → new ≡ wadd old count → (cause place : ℕ) (mid last : List ℕ) (notifies : Bool) (r : Outcome) → mid ≡ withSlots 8 256 page old (errorReplies (requestsFrom page old count))
       → ProducerMoved Replies mid old new last notifies → r .answer ≡ answer.Spoiled cause place count notifies → r .queue ≡ goOn new
       → (window : List ℕ) → Delivered (refuse old page window (requestsFrom page old count) cause place) r last window
   unfolding refuse
@@ -71,7 +71,7 @@ module _ (old count : ℕ) (page : List ℕ) (size : length page ≡ 4096) (few 
         window = refl;
       }
 
-  pub delivered : (pages window frame mid last window′ : List ℕ) (r : Outcome) → mid ≡ withReplies 8 256 page old (pieceReplies (requestsFrom page old count) frame)
+  pub delivered : (pages window frame mid last window′ : List ℕ) (r : Outcome) → mid ≡ withSlots 8 256 page old (pieceReplies (requestsFrom page old count) frame)
       → Concluded mid old count (length frame) last r → window′ ≡ scatter window pages frame
       → Delivered (deliver old page window (requestsFrom page old count) pages frame) r last window′
   unfolding deliver

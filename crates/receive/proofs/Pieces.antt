@@ -11,7 +11,7 @@ use lib.Dec.{ltb}
 use borrow.Author.Tests.{lt-ltb, le-ltb}
 use Rattle.words.specs.Word.{u16At, u16Bytes, splice}
 use Rattle.words.proofs.Word.{lt-or-ge}
-use Rattle.ring.specs.Ring.{wadd, notify, slotPlace, slotAt, withReplies}
+use Rattle.ring.specs.Ring.{wadd, notify, slotPlace, slotAt, withSlots}
 use Rattle.ring.specs.declared.Side.the-variants.{Replies}
 use Rattle.ring.proofs.Ring.{Short, place-fits, slots-at, slots-length, slot-u16}
 use Rattle.grant.specs.Grant.{withPage}
@@ -138,16 +138,16 @@ module _ (page : List ℕ) (size : length page ≡ 4096) (first count : ℕ) (fe
   error-count : length (errorReplies (requestsFrom page first count)) ≡ count
   error-count = errors-length (requestsFrom page first count) ∙ slots-length 8 256 page count first
 
-  pub errors-next : (n i : ℕ) (now next : List ℕ) → i < count → n ≡ wadd first i → now ≡ withReplies 8 256 page first (take i (errorReplies (requestsFrom page first count)))
-      → next ≡ splice now (slotPlace 8 256 n) (errorReply (slotAt 8 256 now n)) → next ≡ withReplies 8 256 page first (take (i + 1) (errorReplies (requestsFrom page first count)))
+  pub errors-next : (n i : ℕ) (now next : List ℕ) → i < count → n ≡ wadd first i → now ≡ withSlots 8 256 page first (take i (errorReplies (requestsFrom page first count)))
+      → next ≡ splice now (slotPlace 8 256 n) (errorReply (slotAt 8 256 now n)) → next ≡ withSlots 8 256 page first (take (i + 1) (errorReplies (requestsFrom page first count)))
   errors-next n i now next h a p q =
       reply-next 8 256 (omega arith) refl page (omega arith) first (errorReplies (requestsFrom page first count)) (errors-short (requestsFrom page first count)) (omega (arith, error-count))
       errorReply n i now next (omega (arith, error-count)) a (error-here page first count i h) p q
 
-  pub errors-last : (i : ℕ) (now : List ℕ) → i ≡ count → now ≡ withReplies 8 256 page first (take i (errorReplies (requestsFrom page first count))) → now ≡ withReplies 8 256 page first (errorReplies (requestsFrom page first count))
-  errors-last i now h p = p ∙ ap (withReplies 8 256 page first) (take-all i (errorReplies (requestsFrom page first count)) (omega (arith, error-count)))
+  pub errors-last : (i : ℕ) (now : List ℕ) → i ≡ count → now ≡ withSlots 8 256 page first (take i (errorReplies (requestsFrom page first count))) → now ≡ withSlots 8 256 page first (errorReplies (requestsFrom page first count))
+  errors-last i now h p = p ∙ ap (withSlots 8 256 page first) (take-all i (errorReplies (requestsFrom page first count)) (omega (arith, error-count)))
 
-  pub errors-notify : (old new : ℕ) → notify Replies (withReplies 8 256 page first (errorReplies (requestsFrom page first count))) old new ≡ notify Replies page old new
+  pub errors-notify : (old new : ℕ) → notify Replies (withSlots 8 256 page first (errorReplies (requestsFrom page first count))) old new ≡ notify Replies page old new
   errors-notify old new =
       notify-replied 8 256 (omega arith) page (omega arith) first (errorReplies (requestsFrom page first count)) (errors-short (requestsFrom page first count)) Replies old new
 
@@ -156,16 +156,16 @@ module _ (page : List ℕ) (size : length page ≡ 4096) (first count : ℕ) (fe
     piece-count = pieces-length (requestsFrom page first count) frame ∙ slots-length 8 256 page count first
 
     pub pieces-next : (n i flags status : ℕ) (now next : List ℕ) → i < count → n ≡ wadd first i → flags ≡ replyFlags (ltb (i + 1) count) → status ≡ min 4096 (length frame - 4096 * i)
-        → now ≡ withReplies 8 256 page first (take i (pieceReplies (requestsFrom page first count) frame))
+        → now ≡ withSlots 8 256 page first (take i (pieceReplies (requestsFrom page first count) frame))
         → next ≡ splice now (slotPlace 8 256 n) (receiveReply (requestIdent (slotAt 8 256 now n)) 0 flags status)
-        → next ≡ withReplies 8 256 page first (take (i + 1) (pieceReplies (requestsFrom page first count) frame))
+        → next ≡ withSlots 8 256 page first (take (i + 1) (pieceReplies (requestsFrom page first count) frame))
     pieces-next n i flags status now next h a f s p q =
         reply-next 8 256 (omega arith) refl page (omega arith) first (pieceReplies (requestsFrom page first count) frame) (pieces-short (requestsFrom page first count) frame) (omega (arith, piece-count))
         (λ (x : Slot). receiveReply (requestIdent x) 0 flags status) n i now next (omega (arith, piece-count)) a (piece-here page first count i h frame flags status f s) p q
 
-    pub pieces-last : (i : ℕ) (now : List ℕ) → i ≡ count → now ≡ withReplies 8 256 page first (take i (pieceReplies (requestsFrom page first count) frame)) → now ≡ withReplies 8 256 page first (pieceReplies (requestsFrom page first count) frame)
-    pieces-last i now h p = p ∙ ap (withReplies 8 256 page first) (take-all i (pieceReplies (requestsFrom page first count) frame) (omega (arith, piece-count)))
+    pub pieces-last : (i : ℕ) (now : List ℕ) → i ≡ count → now ≡ withSlots 8 256 page first (take i (pieceReplies (requestsFrom page first count) frame)) → now ≡ withSlots 8 256 page first (pieceReplies (requestsFrom page first count) frame)
+    pieces-last i now h p = p ∙ ap (withSlots 8 256 page first) (take-all i (pieceReplies (requestsFrom page first count) frame) (omega (arith, piece-count)))
 
-    pub pieces-notify : (old new : ℕ) → notify Replies (withReplies 8 256 page first (pieceReplies (requestsFrom page first count) frame)) old new ≡ notify Replies page old new
+    pub pieces-notify : (old new : ℕ) → notify Replies (withSlots 8 256 page first (pieceReplies (requestsFrom page first count) frame)) old new ≡ notify Replies page old new
     pieces-notify old new =
         notify-replied 8 256 (omega arith) page (omega arith) first (pieceReplies (requestsFrom page first count) frame) (pieces-short (requestsFrom page first count) frame) Replies old new

@@ -5,7 +5,7 @@ use mathlib.Core.Bool.{Bool, not, cond, _||_}
 use Prim.Native.Nat.{ℕ, suc, _+_, _/_}
 use lib.ListN.{length, take, drop}
 use lib.Dec.{ltb, eqb}
-use Rattle.ring.specs.Ring.{pageSize, posted, asking, notify, wadd, withProducer, slotsFrom, withReplies}
+use Rattle.ring.specs.Ring.{pageSize, posted, asking, notify, wadd, withProducer, slotsFrom, withSlots}
 use Rattle.ring.specs.declared.Side.the-variants.{Replies}
 use Rattle.grant.specs.Grant.{fitReceive, pageOf, withPage}
 use Rattle.netif.specs.Slot.{Slot, requestWidth, requestCount, error, requestIdent, requestGref, receiveReply}
@@ -80,7 +80,7 @@ told n q page window = record { report = plain n; queue = q; page = page; window
 
 -- replies from a counter on, and rsp_prod behind them
 abbrev pub replied : List ℕ → ℕ → ℕ → List (List ℕ) → List ℕ
-replied page old new rs = withProducer Replies (withReplies requestWidth requestCount page old rs) new
+replied page old new rs = withProducer Replies (withSlots requestWidth requestCount page old rs) new
 
 -- one of the requests is unfit: all get an error, and no page is written
 unfoldable pub refuse : (old : ℕ) (page window : List ℕ) (requests : List Slot) (cause place : ℕ) → Delivery

@@ -5,7 +5,7 @@ ghost use Prim.Native.Nat.{_+_, _-_, _*_, _≤_, ℕ, min};
 ghost use mathlib.Core.List.{List, [], _∷_};
 ghost use lib.ListN.{length, take};
 ghost use Rattle.words.specs.Word.{splice};
-ghost use Rattle.ring.specs.Ring.{pageSize, slotPlace, slotAt, withReplies};
+ghost use Rattle.ring.specs.Ring.{pageSize, slotPlace, slotAt, withSlots};
 ghost use Rattle.grant.specs.Found.{writePage};
 ghost use Rattle.netif.specs.Slot.{requestWidth, requestCount, requestIdent, receiveReply};
 ghost use Rattle.netif.specs.Report.{halt, goOn};
@@ -176,7 +176,7 @@ fn reply(ring: &mut [u8], n: u32, flags: u16, status: u16)
 fn reply_pieces(ring: &mut [u8], first: u32, count: u32, frame: &[u8])
     requires { ⌜ (length (now ring) ≡ pageSize) × (count ≤ 16) × (pieceSize * count ≤ length (now frame) + 4095) ⌝ }
     ensures { λ _. ⌜
-        now (ring .exit) ≡ withReplies requestWidth requestCount (now (ring .entry)) first
+        now (ring .exit) ≡ withSlots requestWidth requestCount (now (ring .entry)) first
         (pieceReplies (requestsFrom (now (ring .entry)) first count) (now (frame .entry))) ⌝ }
 {
     let mut i: u32 = 0;
@@ -196,7 +196,7 @@ fn reply_pieces(ring: &mut [u8], first: u32, count: u32, frame: &[u8])
 fn reply_errors(ring: &mut [u8], first: u32, count: u32)
     requires { ⌜ (length (now ring) ≡ pageSize) × (count ≤ 16) ⌝ }
     ensures { λ _. ⌜
-        now (ring .exit) ≡ withReplies requestWidth requestCount (now (ring .entry)) first
+        now (ring .exit) ≡ withSlots requestWidth requestCount (now (ring .entry)) first
         (errorReplies (requestsFrom (now (ring .entry)) first count)) ⌝ }
 {
     let mut i: u32 = 0;

@@ -9,7 +9,7 @@ use native.Mathlib.Omega.{arith}
 use lib.ListN.{length, getD}
 use Rattle.words.specs.Word.{Bytes, u32Bytes, splice}
 use Rattle.words.proofs.Word.{splice-all, splice-length, bytes-spliced, bytes-u32}
-use Rattle.ring.specs.Ring.{wrap, wadd, wsub, reqProd, posted, withProducer, notify, slotPlace, slotAt, slotsFrom, withReplies, withPosted}
+use Rattle.ring.specs.Ring.{wrap, wadd, wsub, reqProd, posted, withProducer, notify, slotPlace, slotAt, slotsFrom, withSlots, withPosted}
 use Rattle.ring.specs.declared.Side.the-variants.{Requests}
 use Rattle.ring.proofs.Ring.{Short, place-fits, slot-mod, slot-length, replies-length, replies-here, replies-slot}
 use Rattle.ring.proofs.Facts.{producer-leaves-size, producer-leaves-slot, producer-read-back, notify-moved}
@@ -45,13 +45,13 @@ module _ (w n : ℕ) where
   unfolding slotPlace
   place-mod i j h = rw h
 
-  replies-mod : (rs : List (List ℕ)) (page : List ℕ) (i j : ℕ) → i % n ≡ j % n → withReplies w n page i rs ≡ withReplies w n page j rs
+  replies-mod : (rs : List (List ℕ)) (page : List ℕ) (i j : ℕ) → i % n ≡ j % n → withSlots w n page i rs ≡ withSlots w n page j rs
   replies-mod [] page i j h = refl
   replies-mod (r ∷ rs) page i j h =
       replies-mod rs (splice page (slotPlace w n i) r) (suc i) (suc j) (suc-mod i n ∙ ap (λ (x : ℕ). suc x % n) h ∙ sym (suc-mod j n))
-      ∙ ap (λ (x : ℕ). withReplies w n (splice page x r) (suc j) rs) (place-mod i j h)
+      ∙ ap (λ (x : ℕ). withSlots w n (splice page x r) (suc j) rs) (place-mod i j h)
 
-  pub replies-wadd : wrap % n ≡ 0 → (rs : List (List ℕ)) (page : List ℕ) (c i : ℕ) → withReplies w n page (wadd c i) rs ≡ withReplies w n page (c + i) rs
+  pub replies-wadd : wrap % n ≡ 0 → (rs : List (List ℕ)) (page : List ℕ) (c i : ℕ) → withSlots w n page (wadd c i) rs ≡ withSlots w n page (c + i) rs
   unfolding wadd
   replies-wadd turn rs page c i = replies-mod rs page ((c + i) % wrap) (c + i) (mod-mod-of-dvd n (c + i) (dvd-of-mod-eq-zero n turn))
 
@@ -64,7 +64,7 @@ leads r c = omega arith
 
 module _ (w n : ℕ) (some : 0 < n) (page : List ℕ) (fits : 64 + w * n ≤ length page) (l : List (List ℕ)) (whole : Whole w l) where
   abbrev written : List ℕ
-  written = withReplies w n page (reqProd page) l
+  written = withSlots w n page (reqProd page) l
 
   written-length : length written ≡ length page
   written-length = replies-length w n some l page (reqProd page) fits (whole-short w l whole)
@@ -107,16 +107,16 @@ module _ (w n : ℕ) (some : 0 < n) (page : List ℕ) (fits : 64 + w * n ≤ len
       let k = wsub (reqProd page) c in
       let there : reqProd page % n ≡ (c + k) % n
       = sym (mod-mod-of-dvd n (reqProd page) (dvd-of-mod-eq-zero n turn)) ∙ ap (_% n) (sym (leads (reqProd page) c)) ∙ mod-mod-of-dvd n (c + k) (dvd-of-mod-eq-zero n turn) in
-      let same : written ≡ withReplies w n page (c + k) l = replies-mod w n l page (reqProd page) (c + k) there in
+      let same : written ≡ withSlots w n page (c + k) l = replies-mod w n l page (reqProd page) (c + k) there in
       header-stays (c + i)
       ∙ ap (λ (p : List ℕ). slotAt w n p (c + i)) same
-      ∙ slot-mod w n (withReplies w n page (c + k) l) (c + i) (c + i + n) (sym (add-mod-right (c + i) n))
+      ∙ slot-mod w n (withSlots w n page (c + k) l) (c + i) (c + i + n) (sym (add-mod-right (c + i) n))
       ∙ replies-slot w n some l page (c + k) fits (whole-short w l whole) (c + i + n) (omega arith) (omega arith)
       ∙ slot-mod w n page (c + i + n) (c + i) (add-mod-right (c + i) n)
 
 -- ---- bytes
 
-bytes-written : (w n : ℕ) → 0 < n → (rs : List (List ℕ)) (page : List ℕ) (i : ℕ) → 64 + w * n ≤ length page → Whole w rs → Bytes page → EachBytes rs → Bytes (withReplies w n page i rs)
+bytes-written : (w n : ℕ) → 0 < n → (rs : List (List ℕ)) (page : List ℕ) (i : ℕ) → 64 + w * n ≤ length page → Whole w rs → Bytes page → EachBytes rs → Bytes (withSlots w n page i rs)
 bytes-written w n some [] page i fits whole h k = h
 bytes-written w n some (r ∷ rs) page i fits whole h k =
     let room : slotPlace w n i + length r ≤ length page = omega (arith, whole .0, place-fits w n i (length page) some fits) in
@@ -126,6 +126,6 @@ bytes-written w n some (r ∷ rs) page i fits whole h k =
 pub posted-bytes : (w n : ℕ) → 0 < n → (page : List ℕ) → 64 + w * n ≤ length page → (l : List (List ℕ)) → Whole w l → Bytes page → EachBytes l → Bytes (withPosted w n page l)
 unfolding withPosted withProducer u32Bytes
 posted-bytes w n some page fits l whole h k =
-    let e : length (withReplies w n page (reqProd page) l) ≡ length page = replies-length w n some l page (reqProd page) fits (whole-short w l whole) in
-    bytes-spliced (withReplies w n page (reqProd page) l) (u32Bytes (wadd (reqProd page) (length l))) 0 (omega (arith, e))
+    let e : length (withSlots w n page (reqProd page) l) ≡ length page = replies-length w n some l page (reqProd page) fits (whole-short w l whole) in
+    bytes-spliced (withSlots w n page (reqProd page) l) (u32Bytes (wadd (reqProd page) (length l))) 0 (omega (arith, e))
     (bytes-written w n some l page (reqProd page) fits whole h k) (bytes-u32 (wadd (reqProd page) (length l)))

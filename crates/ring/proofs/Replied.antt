@@ -9,7 +9,7 @@ use lib.ListN.{length, take, getD}
 use lib.Seq.{length-take-le, take-suc}
 use Rattle.words.specs.Word.{splice}
 use Rattle.words.proofs.Word.{u32-same}
-use Rattle.ring.specs.Ring.{wrap, wadd, producerAt, withProducer, notify, slotPlace, slotAt, slotsFrom, withReplies}
+use Rattle.ring.specs.Ring.{wrap, wadd, producerAt, withProducer, notify, slotPlace, slotAt, slotsFrom, withSlots}
 use Rattle.ring.specs.declared.Side.{Side}
 use Rattle.ring.specs.declared.Side.the-variants.{Replies}
 use Rattle.ring.proofs.Facts.{producer-low, producer-leaves-slot}
@@ -39,8 +39,8 @@ module _ (w n : ℕ) (turn : wrap % n ≡ 0) (page : List ℕ) (first : ℕ) whe
 module _ (w n : ℕ) (some : 0 < n) (turn : wrap % n ≡ 0) (page : List ℕ) (fits : 64 + w * n ≤ length page) (first : ℕ) (rs : List (List ℕ)) (short : Short w rs) (few : length rs ≤ n) where
   -- after i replies: the reply to the next request, made of that request as it stands then, is one more
   pub reply-next : (f : List ℕ → List ℕ) (m i : ℕ) (now next : List ℕ) → i < length rs → m ≡ wadd first i
-      → getD rs i [] ≡ f (slotAt w n page (first + i)) → now ≡ withReplies w n page first (take i rs)
-      → next ≡ splice now (slotPlace w n m) (f (slotAt w n now m)) → next ≡ withReplies w n page first (take (i + 1) rs)
+      → getD rs i [] ≡ f (slotAt w n page (first + i)) → now ≡ withSlots w n page first (take i rs)
+      → next ≡ splice now (slotPlace w n m) (f (slotAt w n now m)) → next ≡ withSlots w n page first (take (i + 1) rs)
   reply-next f m i now next h a g p q =
       let e : length (take i rs) ≡ i = length-take-le i rs (omega arith) in
       let stands : slotAt w n now m ≡ slotAt w n page (first + i)
@@ -54,16 +54,16 @@ module _ (w n : ℕ) (some : 0 < n) (turn : wrap % n ≡ 0) (page : List ℕ) (f
 -- with rsp_prod moved, reply j stands in the first bytes of its slot, and the slot's others stay
 pub reply-stands : (w n : ℕ) → 0 < n → (page : List ℕ) → 64 + w * n ≤ length page → (first : ℕ) (rs : List (List ℕ)) → Short w rs → length rs ≤ n
     → (new j : ℕ) → j < length rs → (r : List ℕ) → getD rs j [] ≡ r
-    → slotAt w n (withProducer Replies (withReplies w n page first rs) new) (first + j) ≡ splice (slotAt w n page (first + j)) 0 r
+    → slotAt w n (withProducer Replies (withSlots w n page first rs) new) (first + j) ≡ splice (slotAt w n page (first + j)) 0 r
 reply-stands w n some page fits first rs short few new j h r e =
-    let size : length (withReplies w n page first rs) ≡ length page = replies-length w n some rs page first fits short in
-    producer-leaves-slot (withReplies w n page first rs) (omega arith) Replies new w n some (omega arith) (first + j)
+    let size : length (withSlots w n page first rs) ≡ length page = replies-length w n some rs page first fits short in
+    producer-leaves-slot (withSlots w n page first rs) (omega arith) Replies new w n some (omega arith) (first + j)
     ∙ replies-here w n some rs page first fits short few j h
     ∙ ap (splice (slotAt w n page (first + j)) 0) e
 
 -- what is written to slots leaves both sides' wishes for an event
 pub notify-replied : (w n : ℕ) → 0 < n → (page : List ℕ) → 64 + w * n ≤ length page → (first : ℕ) (rs : List (List ℕ)) → Short w rs
-    → (s : Side) (old new : ℕ) → notify s (withReplies w n page first rs) old new ≡ notify s page old new
+    → (s : Side) (old new : ℕ) → notify s (withSlots w n page first rs) old new ≡ notify s page old new
 unfolding notify
 notify-replied w n some page fits first rs short s old new =
-    rw (u32-same (withReplies w n page first rs) page (producerAt s + 4) (λ j a b. replies-header w n some rs page first fits short j (omega (arith, producer-low s))))
+    rw (u32-same (withSlots w n page first rs) page (producerAt s + 4) (λ j a b. replies-header w n some rs page first fits short j (omega (arith, producer-low s))))

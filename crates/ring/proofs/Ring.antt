@@ -9,7 +9,7 @@ use lib.ListN.{length, take, drop, getD, length-take, length-drop}
 use lib.Seq.{take-at, drop-at, getD-take, getD-drop, ext-getD}
 use Rattle.words.specs.Word.{Bytes, u16At, u32At, splice}
 use Rattle.words.proofs.Word.{lt-or-ge, splice-length, splice-before, splice-after, splice-inside, part-same, take-bytes, drop-bytes}
-use Rattle.ring.specs.Ring.{wrap, slotPlace, slotAt, slotsFrom, withReplies}
+use Rattle.ring.specs.Ring.{wrap, slotPlace, slotAt, slotsFrom, withSlots}
 
 -- ---- slots of different places, over the width and the count
 
@@ -112,13 +112,13 @@ module _ (w n : ℕ) where
       simp (slot-byte page i j (omega arith), slot-byte page i (j + 1) (omega arith), slot-byte page i (j + 2) (omega arith), slot-byte page i (j + 3) (omega arith), add-assoc)
 
   -- replies one after the other
-  pub replies-append : (a b : List (List ℕ)) (page : List ℕ) (i : ℕ) → withReplies w n page i (a ++ b) ≡ withReplies w n (withReplies w n page i a) (i + length a) b
+  pub replies-append : (a b : List (List ℕ)) (page : List ℕ) (i : ℕ) → withSlots w n page i (a ++ b) ≡ withSlots w n (withSlots w n page i a) (i + length a) b
   replies-append [] b page i = rw (add-zero i)
   replies-append (r ∷ a) b page i =
-      replies-append a b (splice page (slotPlace w n i) r) (suc i) ∙ ap (λ (j : ℕ). withReplies w n (withReplies w n (splice page (slotPlace w n i) r) (suc i) a) j b) (omega arith)
+      replies-append a b (splice page (slotPlace w n i) r) (suc i) ∙ ap (λ (j : ℕ). withSlots w n (withSlots w n (splice page (slotPlace w n i) r) (suc i) a) j b) (omega arith)
 
   -- one more reply
-  pub replies-more : (rs : List (List ℕ)) (page : List ℕ) (i : ℕ) (r : List ℕ) → withReplies w n page i (rs ++ (r ∷ [])) ≡ splice (withReplies w n page i rs) (slotPlace w n (i + length rs)) r
+  pub replies-more : (rs : List (List ℕ)) (page : List ℕ) (i : ℕ) (r : List ℕ) → withSlots w n page i (rs ++ (r ∷ [])) ≡ splice (withSlots w n page i rs) (slotPlace w n (i + length rs)) r
   replies-more rs page i r = replies-append rs (r ∷ []) page i
 
 -- replies that fit their slots
@@ -161,14 +161,14 @@ module _ (w n : ℕ) (some : 0 < n) where
         (λ c. splice-before page (slotPlace w n i) r reply-fits k (omega arith))
         (places-apart w n i j h))
 
-  pub replies-length : (rs : List (List ℕ)) (page : List ℕ) (i : ℕ) → 64 + w * n ≤ length page → Short w rs → length (withReplies w n page i rs) ≡ length page
+  pub replies-length : (rs : List (List ℕ)) (page : List ℕ) (i : ℕ) → 64 + w * n ≤ length page → Short w rs → length (withSlots w n page i rs) ≡ length page
   replies-length [] page i f h = refl
   replies-length (r ∷ rs) page i f h =
       let e : length (splice page (slotPlace w n i) r) ≡ length page = reply-length page f i r (h .0) in
       replies-length rs (splice page (slotPlace w n i) r) (suc i) (omega arith) (h .1) ∙ e
 
   pub replies-header : (rs : List (List ℕ)) (page : List ℕ) (i : ℕ) → 64 + w * n ≤ length page → Short w rs
-      → (j : ℕ) → j < 64 → getD (withReplies w n page i rs) j 0 ≡ getD page j 0
+      → (j : ℕ) → j < 64 → getD (withSlots w n page i rs) j 0 ≡ getD page j 0
   replies-header [] page i f h j g = refl
   replies-header (r ∷ rs) page i f h j g =
       let e : length (splice page (slotPlace w n i) r) ≡ length page = reply-length page f i r (h .0) in
@@ -176,7 +176,7 @@ module _ (w n : ℕ) (some : 0 < n) where
 
   -- replies leave the slots behind them, as far as one turn of the ring
   pub replies-slot : (rs : List (List ℕ)) (page : List ℕ) (i : ℕ) → 64 + w * n ≤ length page → Short w rs
-      → (j : ℕ) → i + length rs ≤ j → j < i + n → slotAt w n (withReplies w n page i rs) j ≡ slotAt w n page j
+      → (j : ℕ) → i + length rs ≤ j → j < i + n → slotAt w n (withSlots w n page i rs) j ≡ slotAt w n page j
   replies-slot [] page i f h j g k = refl
   replies-slot (r ∷ rs) page i f h j g k =
       let e : length (splice page (slotPlace w n i) r) ≡ length page = reply-length page f i r (h .0) in
@@ -206,13 +206,13 @@ module _ (w n : ℕ) (some : 0 < n) where
 
   -- each of at most one turn of replies stands in its slot
   pub replies-here : (rs : List (List ℕ)) (page : List ℕ) (i : ℕ) → 64 + w * n ≤ length page → Short w rs → length rs ≤ n
-      → (j : ℕ) → j < length rs → slotAt w n (withReplies w n page i rs) (i + j) ≡ splice (slotAt w n page (i + j)) 0 (getD rs j [])
+      → (j : ℕ) → j < length rs → slotAt w n (withSlots w n page i rs) (i + j) ≡ splice (slotAt w n page (i + j)) 0 (getD rs j [])
   replies-here [] page i f h m j g = absurd (omega arith)
   replies-here (r ∷ rs) page i f h m zero g =
       let e : length (splice page (slotPlace w n i) r) ≡ length page = reply-length page f i r (h .0) in
       let z : i + 0 ≡ i = omega arith in
       rw z
-      (slot-mod w n (withReplies w n (splice page (slotPlace w n i) r) (suc i) rs) i (i + n) (turn-mod i)
+      (slot-mod w n (withSlots w n (splice page (slotPlace w n i) r) (suc i) rs) i (i + n) (turn-mod i)
       ∙ replies-slot rs (splice page (slotPlace w n i) r) (suc i) (omega arith) (h .1) (i + n) (omega arith) (omega arith)
       ∙ slot-mod w n (splice page (slotPlace w n i) r) (i + n) i (sym (turn-mod i))
       ∙ reply-here page f i r (h .0))

@@ -15,7 +15,7 @@ use lib.Seq.{take-at, drop-at, take-all, getD-drop, getD-append-add}
 use Rattle.words.proofs.Word.{lt-or-ge}
 use Rattle.words.proofs.Lists.{map-at}
 use Rattle.words.specs.Word.{splice}
-use Rattle.ring.specs.Ring.{wrap, wadd, slotPlace, slotAt, slotsFrom, withReplies}
+use Rattle.ring.specs.Ring.{wrap, wadd, slotPlace, slotAt, slotsFrom, withSlots}
 use Rattle.ring.proofs.Ring.{slots-length, slots-at, slots-same, slots-split, slots-snoc, replies-length, replies-slot, replies-here, replies-append}
 use Rattle.ring.proofs.Replied.{reply-next}
 use Rattle.netif.specs.Slot.{Slot}
@@ -62,9 +62,9 @@ module _ (f : Slot → List ℕ) (short : (s : Slot) → length (f s) ≤ 12) (p
       reply-next 12 256 (omega arith) refl page (omega arith) (first + from) rs (short-map f short (slotsFrom 12 256 page (first + from) (i + 1))) (omega arith)
       f m i now (splice now (slotPlace 12 256 m) (f (slotAt 12 256 now m))) (omega arith) counter
       (map-at f (slotsFrom 12 256 page (first + from) (i + 1)) i [] [] (omega arith) ∙ ap f (slots-at 12 256 page (i + 1) (first + from) i (omega arith)))
-      (inv ∙ ap (withReplies 12 256 page (first + from)) (sym (by-parts f short page size (first + from) i)))
+      (inv ∙ ap (withSlots 12 256 page (first + from)) (sym (by-parts f short page size (first + from) i)))
       refl
-      ∙ ap (withReplies 12 256 page (first + from)) (take-all (i + 1) rs (omega arith))
+      ∙ ap (withSlots 12 256 page (first + from)) (take-all (i + 1) rs (omega arith))
 
 -- ---- the three runs
 
@@ -110,12 +110,12 @@ module _ (page : List ℕ) (size : length page ≡ 4096) (c e k status : ℕ) (f
       let ex : List (List ℕ) = map extraReply (slotsFrom 12 256 page (suc c) e) in
       let la : List (List ℕ) = map (dataReply status) (slotsFrom 12 256 page (suc c + e) k) in
       let m : length (map extraReply (slotsFrom 12 256 page (suc c) e)) ≡ e = length-map (slotsFrom 12 256 page (suc c) e) extraReply ∙ slots-length 12 256 page e (suc c) in
-      let two : repliedBy extraReply page1 (c + 1) e ≡ withReplies 12 256 page1 (suc c) ex = ap (λ (l : List Slot). withReplies 12 256 page1 (c + 1) (map extraReply l)) page1-extras ∙ ap (λ (x : ℕ). withReplies 12 256 page1 x ex) (add-one c) in
-      ap (λ (l : List Slot). withReplies 12 256 (repliedBy extraReply page1 (c + 1) e) (c + (1 + e)) (map (dataReply status) l)) page2-later
-      ∙ ap (λ (p : List ℕ). withReplies 12 256 p (c + (1 + e)) la) two
-      ∙ ap (λ (x : ℕ). withReplies 12 256 (withReplies 12 256 page1 (suc c) ex) x la) (omega arith)
+      let two : repliedBy extraReply page1 (c + 1) e ≡ withSlots 12 256 page1 (suc c) ex = ap (λ (l : List Slot). withSlots 12 256 page1 (c + 1) (map extraReply l)) page1-extras ∙ ap (λ (x : ℕ). withSlots 12 256 page1 x ex) (add-one c) in
+      ap (λ (l : List Slot). withSlots 12 256 (repliedBy extraReply page1 (c + 1) e) (c + (1 + e)) (map (dataReply status) l)) page2-later
+      ∙ ap (λ (p : List ℕ). withSlots 12 256 p (c + (1 + e)) la) two
+      ∙ ap (λ (x : ℕ). withSlots 12 256 (withSlots 12 256 page1 (suc c) ex) x la) (omega arith)
       ∙ sym (replies-append 12 256 ex la page1 (suc c))
-      ∙ ap (withReplies 12 256 page c) (sym all-replies)
+      ∙ ap (withSlots 12 256 page c) (sym all-replies)
 
 -- ---- the page afterwards, slot by slot
 

@@ -2,7 +2,7 @@
 use mathlib.Core.Path.{_≡_}
 use mathlib.Core.List.{List, map}
 use Prim.Native.Nat.{ℕ}
-use Rattle.ring.specs.Ring.{wadd, notify, slotsFrom, withReplies}
+use Rattle.ring.specs.Ring.{wadd, notify, slotsFrom, withSlots}
 use Rattle.ring.specs.declared.Side.the-variants.{Replies}
 use Rattle.netif.specs.Slot.{Slot, slotWidth, slotCount}
 use Rattle.netif.specs.Report.{reportOf}
@@ -33,7 +33,7 @@ pub record ConsumedAs (page : List ℕ) (old slots extras status : ℕ) (after :
 
 -- the page where the k slots from slot n on got the replies that f gives them
 unfoldable pub repliedBy : (Slot → List ℕ) → List ℕ → (n k : ℕ) → List ℕ
-repliedBy f page n k = withReplies slotWidth slotCount page n (map f (slotsFrom slotWidth slotCount page n k))
+repliedBy f page n k = withSlots slotWidth slotCount page n (map f (slotsFrom slotWidth slotCount page n k))
 
 -- the slot at counter c as a packet of one, and its outline
 abbrev pub packetOne : List ℕ → ℕ → List Slot

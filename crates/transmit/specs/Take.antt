@@ -5,7 +5,7 @@ use Prim.Native.Nat.{ℕ, _+_}
 use lib.ListN.{length, take}
 use lib.Dec.{ltb, eqb}
 use Rattle.words.specs.Word.{splice}
-use Rattle.ring.specs.Ring.{pageSize, posted, asking, notify, wadd, withProducer, slotsFrom, withReplies}
+use Rattle.ring.specs.Ring.{pageSize, posted, asking, notify, wadd, withProducer, slotsFrom, withSlots}
 use Rattle.ring.specs.declared.Side.the-variants.{Replies}
 use Rattle.netif.specs.Slot.{Slot, slotWidth, slotCount, okay, error, checksumBlank, dataValidated}
 use Rattle.netif.specs.Packet.{firstOf, gsoSizeOf, gsoTypeOf}
@@ -52,7 +52,7 @@ doneReport e p notified = record {
 
 -- the page after replies to so many slots from counter c on, so many of them extras: ids as the ring has them
 unfoldable pub repliesTo : List ℕ → (c slots extras status : ℕ) → List ℕ
-repliesTo page c slots extras status = withReplies slotWidth slotCount page c (repliesOf extras (slotsFrom slotWidth slotCount page c slots) status)
+repliesTo page c slots extras status = withSlots slotWidth slotCount page c (repliesOf extras (slotsFrom slotWidth slotCount page c slots) status)
 
 -- and with rsp_prod behind them
 unfoldable pub repliedPage : List ℕ → (c slots extras status : ℕ) → List ℕ

@@ -4,7 +4,7 @@ use native.Mathlib.Omega.{arith}
 use mathlib.Core.Path.{_≡_, sym, _∙_}
 use Prim.Native.Nat.{_+_, _-_, _*_, _≤_}
 use lib.ListN.{length, take, drop}
-use Rattle.ring.specs.Ring.{withReplies}
+use Rattle.ring.specs.Ring.{withSlots}
 use Rattle.frontend.specs.Post.{laterFor}
 use Rattle.frontend.proofs.Stored.{later-first, later-next, later-last}
 use Rattle.posting.proofs.slots.put_later.Statement.{statement}
@@ -15,7 +15,7 @@ Inv-loop ring₀ first refs count frame i₀ ring i =
     (1 ≤ i)
     × (i ≤ count)
     × (length ring ≡ 4096)
-    × (withReplies 12 256 ring₀ first (laterFor first (drop 1 (take count refs)) (drop 4096 frame)) ≡ withReplies 12 256 ring (first + (i - 1)) (laterFor (first + (i - 1)) (drop i (take count refs)) (drop (4096 * i) frame)))
+    × (withSlots 12 256 ring₀ first (laterFor first (drop 1 (take count refs)) (drop 4096 frame)) ≡ withSlots 12 256 ring (first + (i - 1)) (laterFor (first + (i - 1)) (drop i (take count refs)) (drop (4096 * i) frame)))
 
 abbrev μ-loop : tie.MeasureT-loop
 μ-loop ring₀ first refs count frame i₀ ring i = count - i
