@@ -1,5 +1,4 @@
 // The comparison on generated runs, by the settings of the generator.
-ghost use mathlib.Core.Path.{_≡_};
 ghost use Prim.Native.Nat.{_+_, _≤_};
 ghost use Rattle.compare.specs.Tally.{Agreeing};
 use crate::line;

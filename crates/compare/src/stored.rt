@@ -3,8 +3,8 @@ ghost use mathlib.Core.Path.{_≡_};
 ghost use Prim.Native.Nat.{_*_, _≤_, _<_};
 ghost use lib.ListN.{length};
 ghost use Rattle.words.specs.Word.{splice};
-ghost use Rattle.ring.specs.Ring.{pageSize, rspProd, slotAt};
-ghost use Rattle.netif.specs.Slot.{slotWidth, slotCount};
+ghost use Rattle.ring.specs.Ring.{pageSize, rspProd};
+ghost use Rattle.netif.specs.Slot.{slotWidth, slotCount, transmitSlot};
 ghost use Rattle.compare.specs.Stored.{Taken, runsOf};
 ghost use Rattle.compare.specs.Tally.{Agreeing};
 use crate::line;
@@ -25,7 +25,7 @@ fn counter(page: &[u8; 4096]) -> u32
 fn take_slot(page: &[u8], n: u32, run: &mut [u8], i: usize)
     requires { ⌜ (length (now page) ≡ pageSize) × (i < slotCount) × (length (now run) ≡ slotWidth * slotCount) ⌝ }
     ensures { λ _. ⌜
-        now (run .exit) ≡ splice (now (run .entry)) (slotWidth * i) (slotAt slotWidth slotCount (now (page .entry)) n) ⌝ }
+        now (run .exit) ≡ splice (now (run .entry)) (slotWidth * i) (transmitSlot (now (page .entry)) n) ⌝ }
 {
     let a = DataSlot::WIDTH * i;
     let b = a + DataSlot::WIDTH;

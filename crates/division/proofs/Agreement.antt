@@ -3,13 +3,13 @@
 use mathlib.Core.Path.{_≡_, refl, sym, ap, _∙_}
 use mathlib.Core.List.{List, [], _∷_, map}
 use Prim.Native.Nat.{ℕ}
-use native.Mathlib.Omega.{arith}
 use lib.ListN.{length}
 use borrow.Author.Tests.{eq-eqb, ne-eqb, le-leb, lt-leb}
 use Rattle.words.specs.Word.{splice}
+use Rattle.words.proofs.Word.{no-confusion}
 use Rattle.netif.specs.Slot.{Slot}
-use Rattle.netif.specs.Grammar.{Begins, BeginsProperly, NoneAtFront}
-use Rattle.netif.proofs.Grammar.{nothing-begins, beginning-iff, misshapen-iff, division-only}
+use Rattle.grammar.specs.Grammar.{Begins, BeginsProperly, NoneAtFront}
+use Rattle.grammar.proofs.Grammar.{nothing-begins, beginning-iff, misshapen-iff, division-only}
 use Rattle.division.specs.Answer.{EndsAs, CutAs, DividedAs}
 use Rattle.division.specs.Fast.{endingOf, cutsOf, lengthsOf, dividedOf, tableOf}
 use Rattle.division.specs.declared.Ending.{Ending}
@@ -24,7 +24,7 @@ unfolding Begins BeginsProperly
 ending-only [] ending.Empty n h = refl
 ending-only [] ending.Waiting n h = absurd (h .0 refl)
 ending-only [] ending.Misshapen n h = absurd (h (nothing-begins .0, nothing-begins .2))
-ending-only (s ∷ l) ending.Empty n h = absurd (let z : _≡_ {A = ℕ} 0 1 = cc in omega arith)
+ending-only (s ∷ l) ending.Empty n h = no-confusion cc
 ending-only (s ∷ l) ending.Waiting n h = rw (beginning-iff (s ∷ l) .1 (h .1))
 ending-only (s ∷ l) ending.Misshapen n h = rw (misshapen-iff (s ∷ l) .1 (h, n))
 

@@ -10,8 +10,8 @@ use lib.Dec.{ltb}
 use borrow.Author.Tests.{lt-ltb, le-ltb}
 use Rattle.words.proofs.Word.{and-both}
 use Rattle.netif.specs.Slot.{Slot}
-use Rattle.netif.specs.Grammar.{Chain, final, linked, Owed}
-use Rattle.netif.proofs.Scan.{link, chain-some}
+use Rattle.grammar.specs.Grammar.{Chain, final, linked, Owed}
+use Rattle.grammar.proofs.Scan.{link, chain-some}
 use Rattle.division.specs.Shape.{alike, linkAt, begun}
 
 -- both tests passed

@@ -9,9 +9,9 @@ use lib.Seq.{length-take-le}
 use Rattle.words.specs.Word.{splice}
 use Rattle.words.proofs.Word.{splice-none, splice-more}
 use Rattle.netif.specs.Slot.{Slot}
-use Rattle.netif.specs.Grammar.{Packet, NoneAtFront, AllPackets, joinAll}
-use Rattle.netif.proofs.Grammar.{packet-some}
-use Rattle.netif.proofs.Service.{join-snoc, each-append}
+use Rattle.grammar.specs.Grammar.{Packet, NoneAtFront, AllPackets, joinAll}
+use Rattle.grammar.proofs.Grammar.{packet-some}
+use Rattle.grammar.proofs.Service.{join-snoc, each-append}
 use Rattle.division.specs.Answer.{EndsAs, CutAs, StepIs}
 use Rattle.division.specs.declared.Ending.{Ending}
 use Rattle.division.specs.declared.Step.{Step}

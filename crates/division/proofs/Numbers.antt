@@ -1,14 +1,14 @@
 -- The numbers of rests are those by which demand 3 speaks of a rest: 4 exactly if it is empty, 6 exactly if it is a nonempty proper
 -- beginning of a packet, 5 exactly if it begins none.
-use mathlib.Core.Path.{_≡_, refl}
+use mathlib.Core.Path.{refl}
 use mathlib.Core.Logic.{⊎-elim, inl}
 use mathlib.Core.List.{List}
 use Prim.Native.Nat.{ℕ}
 use native.Mathlib.Omega.{arith}
 use Rattle.netif.specs.Slot.{Slot}
-use Rattle.netif.specs.Grammar.{Begins, BeginsProperly}
-use Rattle.netif.specs.Service.{Ending as Told}
-use Rattle.netif.proofs.Grammar.{nothing-begins}
+use Rattle.grammar.specs.Grammar.{Begins, BeginsProperly}
+use Rattle.grammar.specs.Service.{Ending as Told}
+use Rattle.grammar.proofs.Grammar.{nothing-begins}
 use Rattle.division.specs.Answer.{EndsAs, numberOf}
 use Rattle.division.specs.declared.Ending.{Ending}
 use Rattle.division.specs.declared.Ending.the-variants as ending

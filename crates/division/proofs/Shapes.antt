@@ -13,8 +13,8 @@ use Rattle.words.specs.Word.{bit, u16At}
 use Rattle.words.proofs.Word.{and-both, lt-or-ge}
 use Rattle.words.proofs.Lists.{length-zero}
 use Rattle.netif.specs.Slot.{Slot, flags, moreData, extraFollows, isExtra, anotherExtra}
-use Rattle.netif.specs.Grammar.{within, isLater, Packet, Begins, BeginsProperly}
-use Rattle.netif.proofs.Grammar.{packet-length}
+use Rattle.grammar.specs.Grammar.{within, isLater, Packet, Begins, BeginsProperly}
+use Rattle.grammar.proofs.Grammar.{packet-length}
 use Rattle.division.specs.Shape.{alike, begun, follows, leads, shaped}
 use Rattle.division.proofs.Chains.{both, alike-same, same-alike, begun-owed, owed-begun, begun-front, begun-join, owed-some, filling, filling-length, filling-begun}
 

@@ -6,7 +6,7 @@ use Prim.Native.Nat.{ℕ, _/_, _%_, _≤_, _<_}
 use lib.ListN.{length, take}
 use Rattle.words.specs.Word.{splice}
 use Rattle.netif.specs.Slot.{Slot, slotWidth, slotCount}
-use Rattle.netif.specs.Grammar.{Packet, Begins, BeginsProperly, NoneAtFront, Division}
+use Rattle.grammar.specs.Grammar.{Packet, Begins, BeginsProperly, NoneAtFront, Division}
 use Rattle.division.specs.Run.{runOf}
 use Rattle.division.specs.declared.Ending.{Ending}
 use Rattle.division.specs.declared.Ending.the-variants as ending

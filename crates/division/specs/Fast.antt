@@ -1,4 +1,4 @@
--- What the fast reader answers: a run's leading packets and its rest as netif's divider gives them.
+-- What the fast reader answers: a run's leading packets and its rest as the divider gives them.
 use mathlib.Core.List.{List, [], _∷_, map}
 use mathlib.Core.Bool.{cond}
 use Prim.Native.Nat.{ℕ, _/_, _%_}
@@ -6,7 +6,7 @@ use lib.ListN.{length}
 use lib.Dec.{eqb, leb}
 use Rattle.words.specs.Word.{splice}
 use Rattle.netif.specs.Slot.{Slot, slotWidth, slotCount}
-use Rattle.netif.specs.Divide.{divide, onCut, packetsOf, restOf}
+use Rattle.grammar.specs.Divide.{divide, onCut, packetsOf, restOf}
 use Rattle.division.specs.Run.{runOf}
 use Rattle.division.specs.declared.Ending.{Ending}
 use Rattle.division.specs.declared.Ending.the-variants as ending

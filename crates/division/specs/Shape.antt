@@ -6,7 +6,7 @@ use Prim.Native.Nat.{ℕ, suc}
 use lib.ListN.{take, drop}
 use lib.Dec.{ltb}
 use Rattle.netif.specs.Slot.{Slot, moreData, extraFollows, isExtra, anotherExtra}
-use Rattle.netif.specs.Grammar.{isLater}
+use Rattle.grammar.specs.Grammar.{isLater}
 
 -- whether both say yes or both say no
 abbrev pub alike : Bool → Bool → Bool

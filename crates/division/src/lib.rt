@@ -1,5 +1,6 @@
 // A run of slots in memory, divided into its leading packets and a rest: what a reader of it answers. There are two, `slow_reader`,
-// which asks the grammar length by length, and `fast_reader`, which is netif's divider. They share the decoding of slots and no other code.
+// which asks the grammar length by length, and `fast_reader`, which is the library's divider. They share the decoding of slots and no
+// other code.
 
 // What the rest of a run is: nothing, a proper beginning of a packet, or the beginning of none.
 pub enum Ending {

@@ -2,20 +2,19 @@
 use mathlib.Core.Path.{refl}
 use Rattle.words.specs.Word.{u16At, u32At, bit, u16Bytes, u32Bytes, splice}
 use Rattle.ring.specs.Ring.{wadd, wsub, withReqEvent, withProducer, posted, asking, notify, slotPlace, slotAt, withPosted}
-use Rattle.grant.specs.Grant.{hasWord, wordBits, granted, writable, pageOf, rangeStart, rangeLength, rangeEnd, rangeInPage, wholePage, inRange, usable, fitTransmit, fitReceive}
+use Rattle.grant.specs.Grant.{hasWord, wordBits, granted, writable, pageOf, rangeStart, rangeLength, rangeEnd, rangeInPage, wholePage, inRange, usable, fitTransmit, fitReceive, pagePart, withPage}
 use Rattle.netif.specs.Slot.{gref, offset, flags, ident, size, moreData, extraFollows, isExtra, anotherExtra, gsoSize, gsoType, transmitReply, requestIdent, requestGref, receiveReply}
-use Rattle.netif.specs.Grammar.{within}
-use Rattle.netif.specs.Divide.{divide}
-use Rattle.packet.specs.Judge.{totalOf, ownPart, parts, judgeSizes, judgeSlot, judgeSlots, judge, dataReply, extraReply, repliesOf}
-use Rattle.transmit.specs.Take.{waitingSlots, doneReport, repliesTo, repliedPage, spoiled, handedOver, look, transmitTake}
+use Rattle.grammar.specs.Grammar.{within}
+use Rattle.grammar.specs.Divide.{divide}
+use Rattle.packet.specs.Judge.{totalOf, ownPart, parts, judgeSizes, judgeSlot, judgeSlots, judge, dataReply, extraReply, repliesOf, partOf, frameOf}
+use Rattle.answer.specs.Effect.{consume}
+use Rattle.transmit.specs.Take.{waitingSlots, summaryOf, repliesTo, spoiled, handedOver, look, transmitTake}
 use Rattle.receive.specs.Put.{badLength, needed, deliver, receivePut}
 use Rattle.netif.specs.Encode.{dataBytes, extraBytes}
-use Rattle.packet.specs.Judge.{partOf, frameOf}
-use Rattle.grant.specs.Grant.{pagePart, withPage}
 use Rattle.frontend.specs.Pages.{badPages}
 use Rattle.frontend.specs.Post.{badGso, flagsFor, dataFor, freeSlots, slotsFor, postPacket, post}
 use Rattle.examples.specs.Posts.{postRows, PostsHold}
 
 pub posts-hold : PostsHold
-unfolding u16At u32At bit u16Bytes u32Bytes splice wadd wsub withReqEvent withProducer posted asking notify slotPlace slotAt withPosted hasWord wordBits granted writable pageOf rangeStart rangeLength rangeEnd rangeInPage wholePage inRange usable fitTransmit fitReceive gref offset flags ident size moreData extraFollows isExtra anotherExtra gsoSize gsoType transmitReply requestIdent requestGref receiveReply within divide totalOf ownPart parts judgeSizes judgeSlot judgeSlots judge dataReply extraReply repliesOf waitingSlots doneReport repliesTo repliedPage spoiled handedOver look transmitTake badLength needed deliver receivePut postRows PostsHold dataBytes extraBytes partOf frameOf pagePart withPage badPages badGso flagsFor dataFor freeSlots slotsFor postPacket post
+unfolding u16At u32At bit u16Bytes u32Bytes splice wadd wsub withReqEvent withProducer posted asking notify slotPlace slotAt withPosted hasWord wordBits granted writable pageOf rangeStart rangeLength rangeEnd rangeInPage wholePage inRange usable fitTransmit fitReceive gref offset flags ident size moreData extraFollows isExtra anotherExtra gsoSize gsoType transmitReply requestIdent requestGref receiveReply within divide totalOf ownPart parts judgeSizes judgeSlot judgeSlots judge dataReply extraReply repliesOf waitingSlots summaryOf repliesTo spoiled handedOver consume look transmitTake badLength needed deliver receivePut postRows PostsHold dataBytes extraBytes partOf frameOf pagePart withPage badPages badGso flagsFor dataFor freeSlots slotsFor postPacket post
 posts-hold = refl

@@ -1,7 +1,7 @@
 -- On a fresh queue one packet of two slots is published in two publications, the call between them is told waiting, and the call
--- after both takes the packet: by computation.
+-- after both takes the packet; and a sequence in which a queue is halted: by computation.
 use mathlib.Core.Path.{_≡_, refl}
-use mathlib.Core.List.{List, []}
+use mathlib.Core.List.{List, [], _++_}
 use Prim.Native.Nat.{ℕ, zero, suc, _+_, _<_}
 use native.Mathlib.Omega.{arith}
 use lib.Dec.{lit<, lit≤}
@@ -9,15 +9,17 @@ use Rattle.words.specs.Word.{u16At, u32At, bit, u16Bytes, u32Bytes, splice}
 use Rattle.words.proofs.Word.{bytes-of}
 use Rattle.ring.specs.Ring.{wadd, wsub, withReqEvent, withProducer, posted, asking, notify, slotPlace, slotAt}
 use Rattle.grant.specs.Grant.{hasWord, wordBits, granted, writable, pageOf, rangeStart, rangeLength, rangeEnd, rangeInPage, wholePage, inRange, usable, fitTransmit}
-use Rattle.netif.specs.Slot.{gref, offset, flags, ident, size, moreData, extraFollows, isExtra, anotherExtra, gsoSize, gsoType, transmitReply}
-use Rattle.netif.specs.Grammar.{within}
-use Rattle.netif.specs.Divide.{divide}
-use Rattle.netif.specs.Report.{goOn}
+use Rattle.netif.specs.Slot.{gref, offset, flags, ident, size, moreData, extraFollows, isExtra, anotherExtra, gsoSize, gsoType, transmitReply, transmitSlot}
+use Rattle.grammar.specs.Grammar.{within}
+use Rattle.grammar.specs.Divide.{divide}
 use Rattle.packet.specs.Judge.{totalOf, ownPart, parts, judgeSizes, judgeSlot, judgeSlots, judge, dataReply, extraReply, repliesOf}
-use Rattle.transmit.specs.Take.{waitingSlots, doneReport, repliesTo, repliedPage, spoiled, handedOver, look, transmitTake}
-use Rattle.transmit.specs.Sequence.{Fresh, afterPublication, callAt, outcomeOf, answerOf, afterCall, Sequence}
-use Rattle.examples.specs.Calls.{zeros, two, ringPage, grants, window}
-use Rattle.examples.specs.Taken.{OneTaken}
+use Rattle.answer.specs.Effect.{consume}
+use Rattle.answer.specs.Words.{markAfter, reportWords, Left}
+use Rattle.grammar.specs.Service.{_▹_}
+use Rattle.transmit.specs.Take.{waitingSlots, summaryOf, repliesTo, spoiled, handedOver, look, transmitTake}
+use Rattle.transmit.specs.Sequence.{Fresh, State, queueAt, Call, callAt, afterCall, afterPublication, Sequence}
+use Rattle.examples.specs.Calls.{zeros, one, two, withExtra, ringPage, grants, window}
+use Rattle.examples.specs.Taken.{Answered, OneTaken, OneHalts}
 
 -- the pages: fresh, with the first slot published, and with both
 abbrev blank : List ℕ
@@ -29,11 +31,35 @@ half = ringPage 1 (two 100 60)
 abbrev full : List ℕ
 full = ringPage 2 (two 100 60)
 
+-- and one with a packet of 13 bytes, and behind it a first slot that announces an extra, and none
+abbrev wrong : List ℕ
+wrong = ringPage 3 (one 13 ++ withExtra 2)
+
 is-fresh : Fresh 0 blank
 unfolding u32At
 is-fresh = record { counter = lit< tt; size = refl; bytes = bytes-of blank refl; requests = refl; replies = refl }
 
-first : Sequence grants window 0 (afterPublication (record { queue = goOn 0; page = blank; run = [] }) half 1) []
+-- what a call with room for every frame leaves
+abbrev left : State → Left
+left s =
+    let e = transmitTake grants window (queueAt s) (s .page) (zeros 65535) in
+    record {
+      returned = e .report .answer;
+      consumed = e .queue .consumed;
+      mark = markAfter (s .mark) (e .queue .halted);
+      page = e .page;
+      buffer = e .buffer;
+      words = reportWords (e .report);
+    }
+
+-- one call more
+call : {s : State} {calls : List Call} → Sequence grants window 0 s calls → Sequence grants window 0 (afterCall s (left s)) (calls ▹ callAt s (zeros 65535) (left s))
+call {s} z = Sequence.transmit z (zeros 65535) (left s) (lit≤ tt) (record { returns = refl; reports = refl; counter = refl; marks = refl; pages = refl; buffers = refl })
+
+abbrev start : State
+start = record { consumed = 0; mark = 0; page = blank; run = [] }
+
+first : Sequence grants window 0 (afterPublication start half 1) []
 unfolding u16At u32At u16Bytes u32Bytes wadd wsub posted slotPlace slotAt
 first = Sequence.publish (Sequence.fresh is-fresh) half 1 (record {
   size = refl;
@@ -44,18 +70,28 @@ first = Sequence.publish (Sequence.fresh is-fresh) half 1 (record {
 })
 
 pub one-taken : OneTaken
-unfolding OneTaken afterPublication callAt outcomeOf answerOf afterCall u16At u32At bit u16Bytes u32Bytes splice wadd wsub withReqEvent withProducer posted asking notify slotPlace slotAt hasWord wordBits granted writable pageOf rangeStart rangeLength rangeEnd rangeInPage wholePage inRange usable fitTransmit gref offset flags ident size moreData extraFollows isExtra anotherExtra gsoSize gsoType transmitReply within divide totalOf ownPart parts judgeSizes judgeSlot judgeSlots judge dataReply extraReply repliesOf waitingSlots doneReport repliesTo repliedPage spoiled handedOver look transmitTake
+unfolding OneTaken Answered afterPublication markAfter u16At u32At bit u16Bytes u32Bytes splice wadd wsub withReqEvent withProducer posted asking notify slotPlace slotAt hasWord wordBits granted writable pageOf rangeStart rangeLength rangeEnd rangeInPage wholePage inRange usable fitTransmit gref offset flags ident size moreData extraFollows isExtra anotherExtra gsoSize gsoType transmitReply within divide totalOf ownPart parts judgeSizes judgeSlot judgeSlots judge dataReply extraReply repliesOf waitingSlots summaryOf repliesTo spoiled handedOver consume look transmitTake
 one-taken = (
   _,
   _,
-  Sequence.transmit
-      (Sequence.publish
-      (Sequence.transmit first (zeros 65535) (lit≤ tt))
-      full 1 (record { size = refl; bytes = bytes-of full refl; raised = refl; few = lit≤ tt; kept = stays }))
-      (zeros 65535) (lit≤ tt),
+  call (Sequence.publish (call first) full 1 (record { size = refl; bytes = bytes-of full refl; raised = refl; few = lit≤ tt; kept = stays })),
   refl,
 )
   where
-    stays : (i : ℕ) → i < 1 → slotAt 12 256 full (0 + i) ≡ slotAt 12 256 (asking half) (0 + i)
+    stays : (i : ℕ) → i < 1 → transmitSlot full (0 + i) ≡ transmitSlot (asking half) (0 + i)
     stays zero h = refl
     stays (suc i) h = absurd (omega arith)
+
+three-slots : Sequence grants window 0 (afterPublication start wrong 3) []
+unfolding u16At u32At u16Bytes u32Bytes wadd wsub posted slotPlace slotAt
+three-slots = Sequence.publish (Sequence.fresh is-fresh) wrong 3 (record {
+  size = refl;
+  bytes = bytes-of wrong refl;
+  raised = refl;
+  few = lit≤ tt;
+  kept = λ i h. absurd (omega (arith, h));
+})
+
+pub one-halts : OneHalts
+unfolding OneHalts Answered afterPublication markAfter u16At u32At bit u16Bytes u32Bytes splice wadd wsub withReqEvent withProducer posted asking notify slotPlace slotAt hasWord wordBits granted writable pageOf rangeStart rangeLength rangeEnd rangeInPage wholePage inRange usable fitTransmit gref offset flags ident size moreData extraFollows isExtra anotherExtra gsoSize gsoType transmitReply within divide totalOf ownPart parts judgeSizes judgeSlot judgeSlots judge dataReply extraReply repliesOf waitingSlots summaryOf repliesTo spoiled handedOver consume look transmitTake
+one-halts = (_, _, call (call (call three-slots)), refl)

@@ -3,12 +3,14 @@ use mathlib.Core.List.{List, [], _∷_, _++_}
 use Prim.Native.Nat.{ℕ, _-_}
 use lib.ListN.{length, replicate}
 use Rattle.words.specs.Word.{u32At, u16Bytes, u32Bytes}
-use Rattle.ring.specs.Ring.{pageSize, slotAt}
-use Rattle.netif.specs.Slot.{Slot, slotWidth, slotCount, requestWidth, requestCount}
-use Rattle.netif.specs.declared.Queue.{Queue}
-use Rattle.netif.specs.Report.{goOn, Report, flag}
-use Rattle.transmit.specs.Take.{Outcome, transmitTake}
-use Rattle.receive.specs.Put.{Delivery, receivePut}
+use Rattle.ring.specs.Ring.{pageSize}
+use Rattle.netif.specs.Slot.{Slot, transmitSlot, receiveSlot}
+use Rattle.answer.specs.declared.Queue.{Queue}
+use Rattle.answer.specs.Report.{goOn, flag}
+use Rattle.answer.specs.Effect.{Effect}
+use Rattle.grammar.specs.Divide.{divide, onCut}
+use Rattle.transmit.specs.Take.{transmitTake}
+use Rattle.receive.specs.Put.{receivePut}
 
 abbrev pub zeros : ℕ → List ℕ
 zeros n = replicate n 0
@@ -89,46 +91,56 @@ abbrev pub window : List ℕ
 window = zeros 4096
 
 -- a transmit call with a frame buffer of so many bytes; the usual one, on all of these slots and with room for every frame
-abbrev pub takesOn : Queue → (page : List ℕ) (room : ℕ) → Outcome
+abbrev pub takesOn : Queue → (page : List ℕ) (room : ℕ) → Effect
 takesOn q page room = transmitTake grants window q page (zeros room)
 
-abbrev pub takes : List Slot → Outcome
+abbrev pub takes : List Slot → Effect
 takes slots = takesOn (goOn 0) (ringPage (length slots) slots) 65535
 
 -- the same with another table
-abbrev pub takesBy : (table : List ℕ) → List Slot → Outcome
+abbrev pub takesBy : (table : List ℕ) → List Slot → Effect
 takesBy table slots = transmitTake table window (goOn 0) (ringPage (length slots) slots) (zeros 65535)
 
 -- a receive call on all of these requests with a frame of so many bytes
-abbrev pub putsBy : (table : List ℕ) → List Slot → ℕ → Delivery
+abbrev pub putsBy : (table : List ℕ) → List Slot → ℕ → Effect
 putsBy table requests n = receivePut table (goOn 0) (ringPage (length requests) requests) window (zeros n)
 
-abbrev pub puts : List Slot → ℕ → Delivery
+abbrev pub puts : List Slot → ℕ → Effect
 puts requests n = putsBy grants requests n
+
+-- ---- what is asked of slots
+
+-- data slots of 0 bytes with these flags; extras of type 1 that each announce another, and one that announces none
+abbrev pub datas : (n flags : ℕ) → List Slot
+datas n flags = replicate n (dataSlot 0 flags 1 0)
+
+abbrev pub linked : (n : ℕ) → List Slot
+linked n = replicate n (1 ∷ 1 ∷ zeros 10)
+
+abbrev pub final : List Slot
+final = extraA 1 ∷ []
+
+-- what stands at their front: 0 with the packet's numbers of data slots and extras, or 6 for a beginning and 5 for neither
+abbrev pub shape : List Slot → List ℕ
+shape l = onCut (divide l) (λ d e. 0 ∷ d ∷ e ∷ []) (6 ∷ []) (5 ∷ [])
 
 -- ---- what is asked of a call
 
 -- the answer, the cause and the place
-abbrev pub answered : Outcome → List ℕ
+abbrev pub answered : Effect → List ℕ
 answered o = o .report .answer ∷ o .report .cause ∷ o .report .place ∷ []
 
 -- slots, notify, total and the gso fields
-abbrev pub reported : Outcome → List ℕ
+abbrev pub reported : Effect → List ℕ
 reported o = o .report .slots ∷ o .report .notifies ∷ o .report .total ∷ o .report .gsoSizeWord ∷ o .report .gsoTypeWord ∷ []
 
 -- the answer, and what is left: the counter, the mark, and req_event on the page
-abbrev pub state : Report → Queue → (page : List ℕ) → List ℕ
-state r q page = r .answer ∷ q .consumed ∷ flag (q .halted) ∷ u32At page 4 ∷ []
-
-abbrev pub taken : Outcome → List ℕ
-taken o = state (o .report) (o .queue) (o .page)
-
-abbrev pub delivered : Delivery → List ℕ
-delivered d = state (d .report) (d .queue) (d .page)
+abbrev pub state : Effect → List ℕ
+state o = o .report .answer ∷ o .queue .consumed ∷ flag (o .queue .halted) ∷ u32At (o .page) 4 ∷ []
 
 -- the bytes of slot n, and of request n, on the page
-abbrev pub slotOf : Outcome → ℕ → List ℕ
-slotOf o n = slotAt slotWidth slotCount (o .page) n
+abbrev pub slotOf : Effect → ℕ → List ℕ
+slotOf o n = transmitSlot (o .page) n
 
-abbrev pub requestOf : Delivery → ℕ → List ℕ
-requestOf d n = slotAt requestWidth requestCount (d .page) n
+abbrev pub requestOf : Effect → ℕ → List ℕ
+requestOf d n = receiveSlot (d .page) n

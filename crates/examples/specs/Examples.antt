@@ -1,15 +1,15 @@
 -- Document 01's examples and those of its limit by request 1: one table, and one claim over it.
 use mathlib.Core.Path.{_≡_}
-use mathlib.Core.List.{List, [], _∷_, map}
+use mathlib.Core.List.{List, [], _∷_, _++_, map}
 use Prim.Native.Nat.{ℕ, _+_, _*_}
 use Prim.Native.String.{String}
 use Rattle.ring.specs.Ring.{notify, posted, slotPlace}
 use Rattle.ring.specs.declared.Side.the-variants.{Replies}
 use Rattle.grant.specs.Grant.{granted, writable, pageOf}
 use Rattle.netif.specs.Slot.{slotWidth, slotCount, gref, offset, ident, size, gsoSize, gsoType, okay, error}
-use Rattle.netif.specs.Report.{halt, goOn, flag}
+use Rattle.answer.specs.Report.{halt, goOn, flag}
 use Rattle.packet.specs.Judge.{parts, dataReply, extraReply}
-use Rattle.examples.specs.Calls.{zeros, slotA, extraA, request, oneAt, one, two, three, withExtra, withExtras, eighteen, header, ringPage, pageWord, range, takesOn, takes, takesBy, puts, putsBy, answered, reported, taken, delivered, slotOf, requestOf}
+use Rattle.examples.specs.Calls.{zeros, slotA, extraA, request, oneAt, one, two, three, withExtra, withExtras, eighteen, header, ringPage, pageWord, range, takesOn, takes, takesBy, puts, putsBy, datas, linked, final, shape, answered, reported, state, slotOf, requestOf}
 
 -- a row: the example's name, what is computed, and what is expected
 pub record Row : Type 0 where
@@ -47,8 +47,8 @@ rows =
     ∷ ("extra: reply, on the ring page" ∣ slotOf (takes (withExtra 1)) 1 ⇒ 0x00 ∷ 0x00 ∷ 0x01 ∷ 0x00 ∷ 0x01 ∷ 0x00 ∷ 0x00 ∷ 0x00 ∷ 0x00 ∷ 0x00 ∷ 0x00 ∷ 0x00 ∷ [])
     ∷ ("extra of type 1: done" ∣ answered (takes (withExtra 1)) ⇒ 0 ∷ 0 ∷ 0 ∷ [])
     ∷ ("extra of type 1: slots, notify, total, gso size, gso type" ∣ reported (takes (withExtra 1)) ⇒ 2 ∷ 1 ∷ 60 ∷ 1460 ∷ 1 ∷ [])
-    ∷ ("extra of type 0: misshapen, halted" ∣ taken (takes (withExtra 0)) ⇒ 5 ∷ 0 ∷ 1 ∷ 0 ∷ [])
-    ∷ ("extra of type 2: misshapen, halted" ∣ taken (takes (withExtra 2)) ⇒ 5 ∷ 0 ∷ 1 ∷ 0 ∷ [])
+    ∷ ("extra of type 0: misshapen, halted" ∣ state (takes (withExtra 0)) ⇒ 5 ∷ 0 ∷ 1 ∷ 0 ∷ [])
+    ∷ ("extra of type 2: misshapen, halted" ∣ state (takes (withExtra 2)) ⇒ 5 ∷ 0 ∷ 1 ∷ 0 ∷ [])
     ∷ ("receive length 4096, id 9" ∣ requestOf (puts (request 9 ∷ []) 4096) 0 ⇒ 0x09 ∷ 0x00 ∷ 0x00 ∷ 0x00 ∷ 0x00 ∷ 0x00 ∷ 0x00 ∷ 0x10 ∷ [])
     ∷ ("receive length 4097: flags 4, status 4096" ∣ requestOf (puts (request 9 ∷ request 10 ∷ []) 4097) 0 ⇒ 0x09 ∷ 0x00 ∷ 0x00 ∷ 0x00 ∷ 0x04 ∷ 0x00 ∷ 0x00 ∷ 0x10 ∷ [])
     ∷ ("receive length 4097: flags 0, status 1" ∣ requestOf (puts (request 9 ∷ request 10 ∷ []) 4097) 1 ⇒ 0x0A ∷ 0x00 ∷ 0x00 ∷ 0x00 ∷ 0x00 ∷ 0x00 ∷ 0x01 ∷ 0x00 ∷ [])
@@ -62,23 +62,36 @@ rows =
     ∷ ("range 100 to 159: cause 5" ∣ answered (takesBy (range 100 59) (oneAt 100 60)) ⇒ 7 ∷ 5 ∷ 0 ∷ [])
     ∷ ("range 100 to 4096: done" ∣ answered (takesBy (range 100 3996) (oneAt 100 60)) ⇒ 0 ∷ 0 ∷ 0 ∷ [])
     ∷ ("range 100 to 4097: cause 4" ∣ answered (takesBy (range 100 3997) (oneAt 100 60)) ⇒ 7 ∷ 4 ∷ 0 ∷ [])
-    ∷ ("receive, range 0 to 4095: spoiled" ∣ delivered (putsBy (range 0 4095) (request 9 ∷ []) 60) ⇒ 7 ∷ 1 ∷ 0 ∷ 0 ∷ [])
-    ∷ ("receive, range 1 to 4096: spoiled" ∣ delivered (putsBy (range 1 4095) (request 9 ∷ []) 60) ⇒ 7 ∷ 1 ∷ 0 ∷ 0 ∷ [])
+    ∷ ("receive, range 0 to 4095: spoiled" ∣ state (putsBy (range 0 4095) (request 9 ∷ []) 60) ⇒ 7 ∷ 1 ∷ 0 ∷ 0 ∷ [])
+    ∷ ("receive, range 1 to 4096: spoiled" ∣ state (putsBy (range 1 4095) (request 9 ∷ []) 60) ⇒ 7 ∷ 1 ∷ 0 ∷ 0 ∷ [])
     -- the limit, as request 1 has it
     ∷ ("18 data slots, one extra: done" ∣ answered (takes (eighteen 0)) ⇒ 0 ∷ 0 ∷ 0 ∷ [])
     ∷ ("18 data slots, four extras: slots, notify, total, gso size, gso type" ∣ reported (takes (eighteen 3)) ⇒ 22 ∷ 1 ∷ 60 ∷ 1460 ∷ 1 ∷ [])
     ∷ ("another extra announced by the third: waiting" ∣ answered (takes (withExtras 3)) ⇒ 6 ∷ 0 ∷ 0 ∷ [])
     ∷ ("another extra announced by the fourth: misshapen" ∣ answered (takes (withExtras 4)) ⇒ 5 ∷ 0 ∷ 0 ∷ [])
+    ∷ ("18 data slots: whole" ∣ shape (datas 17 4 ++ datas 1 0) ⇒ 0 ∷ 18 ∷ 0 ∷ [])
+    ∷ ("17 data slots that announce more: a beginning" ∣ shape (datas 17 4) ⇒ 6 ∷ [])
+    ∷ ("18 data slots that announce more: misshapen" ∣ shape (datas 18 4) ⇒ 5 ∷ [])
+    ∷ ("19 data slots: misshapen" ∣ shape (datas 18 4 ++ datas 1 0) ⇒ 5 ∷ [])
+    ∷ ("4 extras: whole" ∣ shape (datas 1 8 ++ linked 3 ++ final) ⇒ 0 ∷ 1 ∷ 4 ∷ [])
+    ∷ ("3 extras that announce another: a beginning" ∣ shape (datas 1 8 ++ linked 3) ⇒ 6 ∷ [])
+    ∷ ("4 extras that announce another: misshapen" ∣ shape (datas 1 8 ++ linked 4) ⇒ 5 ∷ [])
+    ∷ ("5 extras: misshapen" ∣ shape (datas 1 8 ++ linked 4 ++ final) ⇒ 5 ∷ [])
+    ∷ ("4 extras, more data announced: a beginning" ∣ shape (datas 1 12 ++ linked 3 ++ final) ⇒ 6 ∷ [])
+    ∷ ("21 slots of 18 data slots and 4 extras: a beginning" ∣ shape (datas 1 12 ++ linked 3 ++ final ++ datas 16 4) ⇒ 6 ∷ [])
+    ∷ ("the last of 18 data slots with 4 extras announces more: misshapen" ∣ shape (datas 1 12 ++ linked 3 ++ final ++ datas 17 4) ⇒ 5 ∷ [])
+    ∷ ("an extra announced by a later data slot: misshapen" ∣ shape (datas 1 4 ++ datas 1 8) ⇒ 5 ∷ [])
+    ∷ ("what follows a packet is not asked" ∣ shape (datas 1 0 ++ (extraA 2 ∷ [])) ⇒ 0 ∷ 1 ∷ 0 ∷ [])
     -- the answers that none of these has, and what is left: the answer, the counter, the mark and req_event
-    ∷ ("a page of 4095 bytes: bad page" ∣ taken (takesOn (goOn 0) (zeros 4095) 65535) ⇒ 1 ∷ 0 ∷ 0 ∷ 0 ∷ [])
-    ∷ ("a halted queue: halted already" ∣ taken (takesOn (halt (goOn 0)) (ringPage 1 (one 14)) 65535) ⇒ 2 ∷ 0 ∷ 1 ∷ 0 ∷ [])
-    ∷ ("256 posted: done" ∣ taken (takesOn (goOn 0) (ringPage 256 (one 14)) 65535) ⇒ 0 ∷ 1 ∷ 0 ∷ 0 ∷ [])
-    ∷ ("257 posted: overflow" ∣ taken (takesOn (goOn 0) (ringPage 257 (one 14)) 65535) ⇒ 3 ∷ 0 ∷ 1 ∷ 0 ∷ [])
-    ∷ ("nothing posted: empty" ∣ taken (takes []) ⇒ 4 ∷ 0 ∷ 0 ∷ 1 ∷ [])
-    ∷ ("two slots of three: waiting" ∣ taken (takesOn (goOn 0) (ringPage 2 (three 596)) 65535) ⇒ 6 ∷ 0 ∷ 0 ∷ 3 ∷ [])
-    ∷ ("total 14, frame buffer 13: no room" ∣ taken (takesOn (goOn 0) (ringPage 1 (one 14)) 13) ⇒ 8 ∷ 0 ∷ 0 ∷ 0 ∷ [])
-    ∷ ("receive length 13: bad frame length" ∣ delivered (puts (request 9 ∷ []) 13) ⇒ 9 ∷ 0 ∷ 0 ∷ 0 ∷ [])
-    ∷ ("receive length 4097, one request: no buffers" ∣ delivered (puts (request 9 ∷ []) 4097) ⇒ 10 ∷ 0 ∷ 0 ∷ 2 ∷ [])
+    ∷ ("a page of 4095 bytes: bad page" ∣ state (takesOn (goOn 0) (zeros 4095) 65535) ⇒ 1 ∷ 0 ∷ 0 ∷ 0 ∷ [])
+    ∷ ("a halted queue: halted already" ∣ state (takesOn (halt (goOn 0)) (ringPage 1 (one 14)) 65535) ⇒ 2 ∷ 0 ∷ 1 ∷ 0 ∷ [])
+    ∷ ("256 posted: done" ∣ state (takesOn (goOn 0) (ringPage 256 (one 14)) 65535) ⇒ 0 ∷ 1 ∷ 0 ∷ 0 ∷ [])
+    ∷ ("257 posted: overflow" ∣ state (takesOn (goOn 0) (ringPage 257 (one 14)) 65535) ⇒ 3 ∷ 0 ∷ 1 ∷ 0 ∷ [])
+    ∷ ("nothing posted: empty" ∣ state (takes []) ⇒ 4 ∷ 0 ∷ 0 ∷ 1 ∷ [])
+    ∷ ("two slots of three: waiting" ∣ state (takesOn (goOn 0) (ringPage 2 (three 596)) 65535) ⇒ 6 ∷ 0 ∷ 0 ∷ 3 ∷ [])
+    ∷ ("total 14, frame buffer 13: no room" ∣ state (takesOn (goOn 0) (ringPage 1 (one 14)) 13) ⇒ 8 ∷ 0 ∷ 0 ∷ 0 ∷ [])
+    ∷ ("receive length 13: bad frame length" ∣ state (puts (request 9 ∷ []) 13) ⇒ 9 ∷ 0 ∷ 0 ∷ 0 ∷ [])
+    ∷ ("receive length 4097, one request: no buffers" ∣ state (puts (request 9 ∷ []) 4097) ⇒ 10 ∷ 0 ∷ 0 ∷ 2 ∷ [])
     ∷ []
 
 -- the claim: what is computed is what is expected, in every row

@@ -5,10 +5,11 @@ use mathlib.Core.List.{List, [], _∷_, _++_, map}
 use Prim.Native.Nat.{ℕ, suc, _-_}
 use lib.ListN.{length, replicate}
 use Rattle.words.specs.Word.{u32At, u32Bytes}
-use Rattle.ring.specs.Ring.{pageSize, slotAt}
-use Rattle.netif.specs.Slot.{slotWidth, slotCount}
-use Rattle.netif.specs.Report.{goOn}
-use Rattle.transmit.specs.Take.{Outcome, transmitTake}
+use Rattle.ring.specs.Ring.{pageSize}
+use Rattle.netif.specs.Slot.{transmitSlot}
+use Rattle.answer.specs.Report.{goOn}
+use Rattle.answer.specs.Effect.{Effect}
+use Rattle.transmit.specs.Take.{transmitTake}
 use Rattle.frontend.specs.declared.Gso.{Gso}
 use Rattle.frontend.specs.declared.Gso.the-variants.{Absent, Given}
 use Rattle.frontend.specs.Post.{Posting, post}
@@ -36,10 +37,10 @@ abbrev pub postsOn : (page : List ℕ) (read : ℕ) → Gso → (refs frame : Li
 postsOn page read o refs frame = post ownGrants page ownWindow read o refs frame
 
 -- and taken at counter n with room for so many bytes
-abbrev pub takesAt : (n room : ℕ) (window page : List ℕ) → Outcome
+abbrev pub takesAt : (n room : ℕ) (window page : List ℕ) → Effect
 takesAt n room window page = transmitTake ownGrants window (goOn n) page (zeros room)
 
-abbrev pub takesBack : (n room : ℕ) → Posting → Outcome
+abbrev pub takesBack : (n room : ℕ) → Posting → Effect
 takesBack n room d = takesAt n room (d .window) (d .page)
 
 -- the answer, slots, notify, and req_prod
@@ -49,13 +50,13 @@ postedWords d = d .report .answer ∷ d .report .slots ∷ d .report .notifies �
 unfoldable pub postRows : List Row
 postRows =
     ("60 bytes: the answer, slots, notify, req_prod" ∣ postedWords (postsOn (ownPage 5) 5 Absent (1 ∷ []) (sevens 60)) ⇒ 0 ∷ 1 ∷ 1 ∷ 6 ∷ [])
-    ∷ ("60 bytes: the slot" ∣ slotAt slotWidth slotCount (postsOn (ownPage 5) 5 Absent (1 ∷ []) (sevens 60) .page) 5 ⇒ 1 ∷ 0 ∷ 0 ∷ 0 ∷ 0 ∷ 0 ∷ 0 ∷ 0 ∷ 5 ∷ 0 ∷ 60 ∷ 0 ∷ [])
-    ∷ ("4097 bytes with gso: the first slot" ∣ slotAt slotWidth slotCount (postsOn (ownPage 5) 5 (Given 1460 1) (1 ∷ 0 ∷ []) (sevens 4097) .page) 5 ⇒ 1 ∷ 0 ∷ 0 ∷ 0 ∷ 0 ∷ 0 ∷ 12 ∷ 0 ∷ 5 ∷ 0 ∷ 1 ∷ 16 ∷ [])
-    ∷ ("4097 bytes with gso: the extra" ∣ slotAt slotWidth slotCount (postsOn (ownPage 5) 5 (Given 1460 1) (1 ∷ 0 ∷ []) (sevens 4097) .page) 6 ⇒ 1 ∷ 0 ∷ 0xB4 ∷ 0x05 ∷ 1 ∷ 0 ∷ 0 ∷ 0 ∷ 0 ∷ 0 ∷ 0 ∷ 0 ∷ [])
-    ∷ ("4097 bytes with gso: the last slot" ∣ slotAt slotWidth slotCount (postsOn (ownPage 5) 5 (Given 1460 1) (1 ∷ 0 ∷ []) (sevens 4097) .page) 7 ⇒ 0 ∷ 0 ∷ 0 ∷ 0 ∷ 0 ∷ 0 ∷ 0 ∷ 0 ∷ 7 ∷ 0 ∷ 1 ∷ 0 ∷ [])
+    ∷ ("60 bytes: the slot" ∣ transmitSlot (postsOn (ownPage 5) 5 Absent (1 ∷ []) (sevens 60) .page) 5 ⇒ 1 ∷ 0 ∷ 0 ∷ 0 ∷ 0 ∷ 0 ∷ 0 ∷ 0 ∷ 5 ∷ 0 ∷ 60 ∷ 0 ∷ [])
+    ∷ ("4097 bytes with gso: the first slot" ∣ transmitSlot (postsOn (ownPage 5) 5 (Given 1460 1) (1 ∷ 0 ∷ []) (sevens 4097) .page) 5 ⇒ 1 ∷ 0 ∷ 0 ∷ 0 ∷ 0 ∷ 0 ∷ 12 ∷ 0 ∷ 5 ∷ 0 ∷ 1 ∷ 16 ∷ [])
+    ∷ ("4097 bytes with gso: the extra" ∣ transmitSlot (postsOn (ownPage 5) 5 (Given 1460 1) (1 ∷ 0 ∷ []) (sevens 4097) .page) 6 ⇒ 1 ∷ 0 ∷ 0xB4 ∷ 0x05 ∷ 1 ∷ 0 ∷ 0 ∷ 0 ∷ 0 ∷ 0 ∷ 0 ∷ 0 ∷ [])
+    ∷ ("4097 bytes with gso: the last slot" ∣ transmitSlot (postsOn (ownPage 5) 5 (Given 1460 1) (1 ∷ 0 ∷ []) (sevens 4097) .page) 7 ⇒ 0 ∷ 0 ∷ 0 ∷ 0 ∷ 0 ∷ 0 ∷ 0 ∷ 0 ∷ 7 ∷ 0 ∷ 1 ∷ 0 ∷ [])
     ∷ ("across the wrap: the answer, slots, notify, req_prod" ∣ postedWords (postsOn (ownPage 4294967295) 4294967295 (Given 1460 1) (1 ∷ 0 ∷ []) (sevens 4097)) ⇒ 0 ∷ 3 ∷ 1 ∷ 2 ∷ [])
     ∷ ("posted, then taken: slots, notify, total, gso size, gso type" ∣ reported (takesBack 5 60 (postsOn (ownPage 5) 5 (Given 1460 1) (1 ∷ []) (sevens 60))) ⇒ 2 ∷ 0 ∷ 60 ∷ 1460 ∷ 1 ∷ [])
-    ∷ ("posted, then taken: the frame" ∣ takesBack 5 16 (postsOn (ownPage 5) 5 Absent (1 ∷ []) (sevens 16)) .frame ⇒ sevens 16)
+    ∷ ("posted, then taken: the frame" ∣ takesBack 5 16 (postsOn (ownPage 5) 5 Absent (1 ∷ []) (sevens 16)) .buffer ⇒ sevens 16)
     ∷ ("a page of 4095 bytes: bad page" ∣ postedWords (postsOn (zeros 4095) 0 (Given 0 0) [] []) ⇒ 1 ∷ 0 ∷ 0 ∷ 0 ∷ [])
     ∷ ("13 bytes: bad frame length, before gso" ∣ postedWords (postsOn (ownPage 5) 5 (Given 0 1) (1 ∷ []) (sevens 13)) ⇒ 9 ∷ 0 ∷ 0 ∷ 5 ∷ [])
     ∷ ("gso size 0: bad gso, before the list" ∣ postedWords (postsOn (ownPage 5) 5 (Given 0 1) [] (sevens 60)) ⇒ 13 ∷ 0 ∷ 0 ∷ 5 ∷ [])

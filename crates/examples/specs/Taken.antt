@@ -1,11 +1,17 @@
--- Demand 3 speaks of something: from a fresh queue a sequence of calls is reached in which one took a packet.
+-- Demand 3 speaks of something: sequences of calls from a fresh queue with these answers.
 use mathlib.Core.Path.{_≡_}
-use mathlib.Core.List.{List}
-use Rattle.netif.specs.Service.{taken}
-use Rattle.transmit.specs.Sequence.{State, Call, Sequence, answerOf, Took, Told}
+use mathlib.Core.List.{List, [], _∷_, map}
+use Prim.Native.Nat.{ℕ}
+use Rattle.transmit.specs.Sequence.{State, Call, answerOf, Sequence}
 use Rattle.examples.specs.Calls.{grants, window}
 
+unfoldable pub Answered : List ℕ → Type 0
+Answered answers = (s : State) × (calls : List Call) × Sequence grants window 0 s calls × (map answerOf calls ≡ answers)
+
+-- a packet in two publications: waiting between them, and then done
 unfoldable pub OneTaken : Type 0
-OneTaken =
-    (s : State) × (calls : List Call) × Sequence grants window 0 s calls
-    × (taken Call (answerOf grants window) (Took grants window) (Told grants window) calls ≡ 1)
+OneTaken = Answered (6 ∷ 0 ∷ [])
+
+-- a packet too short, and behind it slots that begin none: spoiled, then halted, and halted already on the next call
+unfoldable pub OneHalts : Type 0
+OneHalts = Answered (7 ∷ 5 ∷ 2 ∷ [])

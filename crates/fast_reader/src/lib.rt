@@ -1,18 +1,18 @@
-// The fast reader: the run is laid on a ring page, and netif's divider reads packet by packet off it.
+// The fast reader: the run is laid on a ring page, and the divider reads packet by packet off it.
 ghost use mathlib.Core.Path.{_≡_};
 ghost use Prim.Native.Nat.{_*_, _≤_};
 ghost use lib.ListN.{length};
 ghost use Rattle.words.specs.Word.{splice};
-ghost use Rattle.ring.specs.Ring.{pageSize, slotsFrom};
-ghost use Rattle.netif.specs.Slot.{slotWidth, slotCount};
+ghost use Rattle.ring.specs.Ring.{pageSize};
+ghost use Rattle.netif.specs.Slot.{slotWidth, slotCount, transmitSlots};
 ghost use Rattle.division.specs.Answer.{StepIs, CutAs};
 ghost use Rattle.division.specs.Fast.{dividedOf, tableOf};
 use division::Cuts;
 use division::Divided;
 use division::Ending;
 use division::Step;
+use grammar::Front;
 use netif::DataSlot;
-use netif::divider::Front;
 
 // Where a ring page's first slot stands.
 const FIRST: usize = 64;
@@ -29,10 +29,10 @@ fn lay(run: &[u8], page: &mut [u8])
 // What stands at the front of the slots that are left on a page.
 fn front(page: &[u8], at: u32, left: u32) -> Step
     requires { ⌜ (length (now page) ≡ pageSize) × (1 ≤ left) × (left ≤ slotCount) ⌝ }
-    ensures { λ r. ⌜ StepIs (slotsFrom slotWidth slotCount (now (page .entry)) at left) r ⌝ }
+    ensures { λ r. ⌜ StepIs (transmitSlots (now (page .entry)) at left) r ⌝ }
 {
     let mut sizes = [0u16; 18];
-    let stands = netif::divider::read(page, at, left, &mut sizes);
+    let stands = divider::read(page, at, left, &mut sizes);
     match stands {
         Front::Whole(outline) => Step::Packet(outline.slots as usize),
         Front::Beginning => Step::Stop(Ending::Waiting),
@@ -44,7 +44,7 @@ fn front(page: &[u8], at: u32, left: u32) -> Step
 fn cut(page: &[u8], slots: usize, cuts: &mut [usize; 256]) -> Cuts
     requires { ⌜ (length (now page) ≡ pageSize) × (slots ≤ slotCount) × (length (now cuts) ≡ slotCount) ⌝ }
     ensures { λ r. ⌜
-        CutAs (slotsFrom slotWidth slotCount (now (page .entry)) 0 slots) (now (cuts .entry)) (now (cuts .exit)) r ⌝ }
+        CutAs (transmitSlots (now (page .entry)) 0 slots) (now (cuts .entry)) (now (cuts .exit)) r ⌝ }
 {
     let mut at: usize = 0;
     let mut count: usize = 0;

@@ -20,11 +20,11 @@ use Rattle.grant.specs.Grant.{withPage}
 use Rattle.receive.specs.Put.{badLength, needed, scatter}
 use Rattle.receive.proofs.Calls.{one-piece}
 use Rattle.frontend.specs.declared.Gso.{Gso}
-use Rattle.netif.specs.Report.{doneWith}
+use Rattle.answer.specs.Report.{doneReport, plainSummary}
 use Rattle.frontend.specs.declared.Answer.the-variants.{Posted, BadPage, BadLength, NoSlots, BadPages, BadGso}
 use Rattle.frontend.specs.Pages.{allFit, twice, pagesOf, badPages}
 use Rattle.frontend.specs.Post.{gsoExtras, badGso, flagsFor, others, dataFor, laterFor, extrasFor, packetFor, freeSlots, slotsFor, postPacket, post}
-use Rattle.frontend.specs.Stages.{Sorted, WithPacket, Posts}
+use Rattle.frontend.specs.Stages.{PagesTested, WithPacket, Posts}
 use Rattle.receive.specs.Stages.{AllUsable}
 use Rattle.frontend.proofs.Shape.{packet-count, extras-count}
 use Rattle.frontend.proofs.Standing.{whole-packet}
@@ -109,7 +109,7 @@ unfolding badLength
 frame-small n h = ltb-false 65535 n (or-none (ltb n 14) (ltb 65535 n) h .1)
 
 -- the references are enough, and their pages lie in the window
-pub sorted-facts : (table window refs : List ℕ) (k : ℕ) (pages : List ℕ) (r : Bool) → Sorted table window refs k pages r → r ≡ false → (k ≤ length refs) × AllUsable (length window) (take k pages)
+pub sorted-facts : (table window refs : List ℕ) (k : ℕ) (pages : List ℕ) (r : Bool) → PagesTested table window refs k pages r → r ≡ false → (k ≤ length refs) × AllUsable (length window) (take k pages)
 unfolding badPages
 sorted-facts table window refs k pages r s h =
     let t : badPages table window refs k ≡ false = sym (s .answer) ∙ h in
@@ -136,7 +136,7 @@ module _ (table page window : List ℕ) (read : ℕ) (o : Gso) (refs frame : Lis
       unfolding post
       posts-bad-gso h = rw (size, framed, h) (record { report = refl; page = refl; window = refl })
 
-  module _ (size : length page ≡ 4096) (framed : badLength (length frame) ≡ false) (gso : badGso o ≡ false) (k : ℕ) (count : k ≡ needed (length frame)) (pages : List ℕ) (r : Bool) (sorted : Sorted table window refs k pages r) where
+  module _ (size : length page ≡ 4096) (framed : badLength (length frame) ≡ false) (gso : badGso o ≡ false) (k : ℕ) (count : k ≡ needed (length frame)) (pages : List ℕ) (r : Bool) (sorted : PagesTested table window refs k pages r) where
     bad-as : badPages table window refs (needed (length frame)) ≡ r
     bad-as = ap (badPages table window refs) (sym count) ∙ sym (sorted .answer)
 
@@ -163,4 +163,4 @@ module _ (table page window : List ℕ) (read : ℕ) (o : Gso) (refs frame : Lis
           let len : length (packetFor (reqProd page) o (take k refs) frame) ≡ k + e = packet-slots (reqProd page) o refs frame k (c .some) enough ∙ ap (k +_) (sym extras) in
           let told : n ≡ notify Requests page (reqProd page) (wadd (reqProd page) (k + e)) = p .notifies ∙ ap (λ (x : ℕ). notify Requests page (reqProd page) (wadd (reqProd page) x)) len in
           rw (eq-eqb (length page) 4096 size, framed, gso, bad-as ∙ good, ← free, slots-as, le-ltb f (k + e) h, ← count)
-          (record { report = ap (λ (b : Bool). doneWith (k + e) b 0) told; page = p .written; window = w ∙ ap (λ (x : List ℕ). scatter window x frame) (sorted .named good) })
+          (record { report = ap (doneReport (plainSummary (k + e) 0)) told; page = p .written; window = w ∙ ap (λ (x : List ℕ). scatter window x frame) (sorted .named good) })

@@ -10,14 +10,15 @@ use lib.Dec.{ltb, eqb}
 use borrow.Author.Tests.{not-false}
 use Rattle.grant.specs.Grant.{inRange, fitTransmit}
 use Rattle.netif.specs.Slot.{Slot, gref, offset, size}
-use Rattle.netif.specs.Packet.{firstOf, laterOf, sizes}
-use Rattle.netif.specs.declared.Queue.{Queue}
-use Rattle.netif.specs.declared.Verdict.{Verdict}
-use Rattle.netif.specs.declared.Verdict.the-variants.{Good, Bad}
-use Rattle.netif.proofs.Grammar.{divide-whole, front-slots}
+use Rattle.grammar.specs.Packet.{firstOf, laterOf, sizes}
+use Rattle.answer.specs.declared.Queue.{Queue}
+use Rattle.answer.specs.declared.Verdict.{Verdict}
+use Rattle.answer.specs.declared.Verdict.the-variants.{Good, Bad}
+use Rattle.grammar.proofs.Grammar.{divide-whole, front-slots}
 use Rattle.ring.specs.Ring.{posted}
-use Rattle.transmit.specs.Take.{waitingSlots, refusal, spoiled, doneReport, handedOver, takePacket, Look, stop, ready, lookFront, look, takeOf, transmitTake}
-use Rattle.netif.specs.Verdict.{_orElse_, test}
+use Rattle.answer.specs.Effect.{refusal, consume}
+use Rattle.transmit.specs.Take.{waitingSlots, summaryOf, spoiled, handedOver, takePacket, Look, stop, ready, lookFront, look, takeOf, transmitTake}
+use Rattle.answer.specs.Verdict.{_orElse_, test}
 use Rattle.packet.specs.Judge.{totalOf, ownPart, judgeSlot, judgeLater, judge}
 use Rattle.packet.proofs.Judge.{orElse-good, test-good, good-parts, good-sizes}
 use Rattle.receive.specs.Put.{needed}
@@ -76,7 +77,7 @@ module _ (table window : List ℕ) (q : Queue) (page buffer : List ℕ) where
   -- a packet that is done is good, and its total is reported
   packet-done : (e : ℕ) (p : List Slot) (v : Verdict) → takePacket table window q page buffer e p v .report .answer ≡ 0
       → (v ≡ Good) × (takePacket table window q page buffer e p v .report .total ≡ totalOf p)
-  unfolding spoiled handedOver doneReport
+  unfolding spoiled handedOver consume summaryOf
   packet-done e p (Bad cause place) h = absurd (omega arith)
   packet-done e p Good h = go (ltb (length buffer) (totalOf p)) h
     where

@@ -27,7 +27,7 @@ fits-ring page read c n a b some = omega arith
 -- ---- the publication
 
 module _ (s : State) (size : length (s .page) ≡ 4096) (o : Gso) (frame : List ℕ) (g : ℕ) (l : List ℕ) (few : length l ≤ 15) (bytes : Bytes (s .page)) (typed : typeGiven o < 256)
-    (fits : posted (s .page) (s .queue .consumed) + length (packetFor (reqProd (s .page)) o (g ∷ l) frame) ≤ 256) where
+    (fits : posted (s .page) (s .consumed) + length (packetFor (reqProd (s .page)) o (g ∷ l) frame) ≤ 256) where
   abbrev r : ℕ
   r = reqProd (s .page)
 
@@ -44,14 +44,14 @@ module _ (s : State) (size : length (s .page) ≡ 4096) (o : Gso) (frame : List 
           bytes = posted-bytes 12 256 (omega arith) (s .page) (omega arith) p whole bytes (bytes-packet r o (g ∷ l) frame typed);
           raised = posted-requests 12 256 (omega arith) (s .page) (omega arith) p whole;
           few = fits;
-          kept = λ i h. posted-keeps 12 256 (omega arith) (s .page) (omega arith) p whole refl (s .queue .consumed) i h fits;
+          kept = λ i h. posted-keeps 12 256 (omega arith) (s .page) (omega arith) p whole refl (s .consumed) i h fits;
         };
         joins = posted-slots 12 256 (omega arith) (s .page) (omega arith) p whole short;
         packet = packet-for r o g l frame (omega arith);
       }
 
 module _ (s : State) (size : length (s .page) ≡ 4096) (o : Gso) (frame : List ℕ) (long : 14 ≤ length frame) (small : length frame < 65536) (bytes : Bytes (s .page)) (typed : typeGiven o < 256)
-    (read : ℕ) (past : NotPast (s .page) read (s .queue .consumed)) (free : slotsFor o (length frame) ≤ freeSlots (s .page) read) where
+    (read : ℕ) (past : NotPast (s .page) read (s .consumed)) (free : slotsFor o (length frame) ≤ freeSlots (s .page) read) where
   all : (u : List ℕ) → length u ≡ needed (length frame) → Publishes s (withPosted 12 256 (s .page) (packetFor (reqProd (s .page)) o u frame)) (packetFor (reqProd (s .page)) o u frame)
   all [] count = let x : length frame ≤ 4096 * needed (length frame) = needed-reach (length frame) in absurd (omega arith)
   all (g ∷ l) count =
@@ -59,7 +59,7 @@ module _ (s : State) (size : length (s .page) ≡ 4096) (o : Gso) (frame : List 
       let e : length (packetFor (reqProd (s .page)) o (g ∷ l) frame) ≡ slotsFor o (length frame)
       = packet-count (reqProd (s .page)) o g l frame ∙ slots-count o (length frame) (suc (length l)) count in
       publishes s size o frame g l (omega arith) bytes typed
-      (fits-ring (s .page) read (s .queue .consumed) (length (packetFor (reqProd (s .page)) o (g ∷ l) frame)) past (omega arith) (omega (arith, packet-count (reqProd (s .page)) o g l frame)))
+      (fits-ring (s .page) read (s .consumed) (length (packetFor (reqProd (s .page)) o (g ∷ l) frame)) past (omega arith) (omega (arith, packet-count (reqProd (s .page)) o g l frame)))
 
 pub post-publishes : PostPublishes
 unfolding PostPublishes postPacket

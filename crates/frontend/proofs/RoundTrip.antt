@@ -12,16 +12,17 @@ use lib.Dec.{ltb, eqb}
 use borrow.Author.Tests.{eqb-true, ltb-false, le-ltb, not-false}
 use Rattle.words.specs.Word.{splice}
 use Rattle.words.proofs.Word.{or-none}
-use Rattle.ring.specs.Ring.{wrap, wadd, reqProd, posted, slotsFrom, withPosted}
+use Rattle.ring.specs.Ring.{wrap, wadd, reqProd, posted, withPosted}
 use Rattle.ring.proofs.Ring.{slots-length, slots-split}
 use Rattle.ring.proofs.Counters.{posted-of, wadd-wadd}
-use Rattle.netif.specs.Slot.{Slot}
-use Rattle.netif.specs.Divide.{whole, divide}
-use Rattle.netif.specs.Report.{goOn, flag}
-use Rattle.netif.specs.declared.Verdict.the-variants.{Good}
-use Rattle.netif.proofs.Grammar.{packet-divide}
+use Rattle.netif.specs.Slot.{Slot, transmitSlots}
+use Rattle.grammar.specs.Divide.{whole, divide}
+use Rattle.answer.specs.Report.{goOn, flag}
+use Rattle.answer.specs.declared.Verdict.the-variants.{Good}
+use Rattle.grammar.proofs.Grammar.{packet-divide}
 use Rattle.packet.specs.Judge.{totalOf, judge, frameOf}
-use Rattle.transmit.specs.Take.{Outcome, waitingSlots, doneReport, handedOver, transmitTake}
+use Rattle.answer.specs.Effect.{Effect, consume}
+use Rattle.transmit.specs.Take.{waitingSlots, summaryOf, handedOver, transmitTake}
 use Rattle.transmit.proofs.Cases.{take-some, waiting-slots, front-packet}
 use Rattle.receive.specs.Put.{badLength, needed, scatter}
 use Rattle.receive.proofs.Calls.{needed-cover, needed-reach}
@@ -114,7 +115,7 @@ module _ (table page window : List ℕ) (read : ℕ) (o : Gso) (refs frame : Lis
 
 -- a packet p of d data slots and e extras stands at the front and is good
 module _ (table window : List ℕ) (c : ℕ) (page buffer : List ℕ) (size : length page ≡ 4096) (p t : List Slot) (few : length p + length t ≤ 256) (some : 0 < length p)
-    (waits : posted page c ≡ length p + length t) (stands : slotsFrom 12 256 page c (length p + length t) ≡ p ++ t)
+    (waits : posted page c ≡ length p + length t) (stands : transmitSlots page c (length p + length t) ≡ p ++ t)
     (d e : ℕ) (cut : divide (p ++ t) ≡ whole d e) (count : length p ≡ d + e)
     (good : judge table window e p ≡ Good) (room : totalOf p ≤ length buffer) where
   pub takes-front : transmitTake table window (goOn c) page buffer ≡ handedOver table window c page buffer e p
@@ -127,10 +128,10 @@ module _ (table window : List ℕ) (c : ℕ) (page buffer : List ℕ) (size : le
 
 module _ (table window : List ℕ) (c : ℕ) (page buffer : List ℕ) (o : Gso) (g : ℕ) (l frame : List ℕ) where
   -- what a packet that was handed over gives
-  module _ (r : Outcome) (h : r ≡ handedOver table window c page buffer (gsoExtras o) (packetFor c o (g ∷ l) frame))
+  module _ (r : Effect) (h : r ≡ handedOver table window c page buffer (gsoExtras o) (packetFor c o (g ∷ l) frame))
       (small : length frame < 65536) (sized : sizeGiven o < 65536) (framed : frameOf table window (gsoExtras o) (packetFor c o (g ∷ l) frame) ≡ frame) where
     pub handed-back : (n : ℕ) → length (packetFor c o (g ∷ l) frame) ≡ n → ComesBack o frame buffer c n r
-    unfolding handedOver doneReport
+    unfolding handedOver consume summaryOf
     handed-back n k = rw h (record {
       done = refl;
       noCause = refl;
@@ -168,13 +169,13 @@ module _ (table window page : List ℕ) (read : ℕ) (o : Gso) (frame : List ℕ
       let whole-p = whole-packet c o (g ∷ l) frame in
       let requests : reqProd page′ ≡ wadd c (length p + more)
       = slots .requests ∙ ap (λ (x : ℕ). wadd x more) (posted-requests 12 256 (omega arith) page (omega arith) p whole-p) ∙ wadd-wadd c (length p) more in
-      let t = slotsFrom 12 256 page′ (c + length p) more in
+      let t = transmitSlots page′ (c + length p) more in
       let tail : length t ≡ more = slots-length 12 256 page′ more (c + length p) in
       let k : length p + more ≤ 256 = omega (arith, slots .few, n) in
       let waits : posted page′ c ≡ length p + more = waiting page′ c (length p + more) requests (omega arith) in
-      let front : slotsFrom 12 256 page′ c (length p) ≡ p
+      let front : transmitSlots page′ c (length p) ≡ p
       = slots-of 12 256 page′ c p (λ j h. slots .slots j (omega (arith, n)) ∙ posted-slot 12 256 (omega arith) page (omega arith) p whole-p short j h) in
-      let stands : slotsFrom 12 256 page′ c (length p + more) ≡ p ++ t
+      let stands : transmitSlots page′ c (length p + more) ≡ p ++ t
       = slots-split 12 256 page′ (length p) more c ∙ ap (_++ t) front in
       let cut : divide (p ++ t) ≡ whole (suc (length l)) (gsoExtras o)
       = packet-divide (packet-for c o g l frame (omega arith)) t ∙ (λ i. whole (suc (later-count (suc c + gsoExtras o) l (drop 4096 frame) i)) (extras-count o i)) in

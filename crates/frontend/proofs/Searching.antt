@@ -11,8 +11,9 @@ use lib.ListN.{length, take, drop, getD, set, drop-of-length-le}
 use lib.Seq.{drop-cons, getD-take, length-take-le, take-suc, take-suc-set}
 use lib.Dec.{eqb}
 use borrow.Author.Tests.{eqb-true, eq-eqb, ne-eqb}
+use Rattle.words.proofs.Word.{no-confusion}
 use Rattle.grant.specs.Grant.{pageOf, fitReceive}
-use Rattle.grant.specs.Found.{writePage}
+use Rattle.grant.specs.Lookup.{writePage}
 use Rattle.grant.specs.declared.Page.the-variants as found
 use Rattle.grant.proofs.Grant.{write-fit, write-unfit}
 use Rattle.frontend.specs.Pages.{among, twice, allFit, pagesOf}
@@ -87,7 +88,7 @@ module _ (table window refs : List ℕ) (count : ℕ) (enough : count ≤ length
 pub not-apart : (r : Search) → ended r ≡ true → r ≡ Apart → ⊥
 not-apart r h e =
     let z : true ≡ false = sym h ∙ ap ended e in
-    absurd (let y : _≡_ {A = ℕ} 0 1 = cc in omega arith)
+    no-confusion cc
 
 -- ---- it ends before the last reference exactly if one is not fit or a page is named twice
 

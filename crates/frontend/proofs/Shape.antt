@@ -7,9 +7,9 @@ use native.Mathlib.Omega.{arith}
 use lib.ListN.{length, take, drop, length-append, length-take, length-drop}
 use lib.Dec.{ltb}
 use Rattle.netif.specs.Slot.{moreData, isExtra, anotherExtra}
-use Rattle.netif.specs.Grammar.{Chain, final, linked, Owed, isLater, Packet}
-use Rattle.netif.specs.Packet.{laterOf, sizes, gsoSizeOf, gsoTypeOf}
-use Rattle.netif.proofs.Within.{within-most}
+use Rattle.grammar.specs.Grammar.{Chain, final, linked, Owed, isLater, Packet}
+use Rattle.grammar.specs.Packet.{laterOf, sizes, gsoSizeOf, gsoTypeOf}
+use Rattle.grammar.proofs.Within.{within-most}
 use Rattle.packet.specs.Judge.{totalOf, ownPart}
 use Rattle.frontend.specs.declared.Gso.{Gso}
 use Rattle.frontend.specs.declared.Gso.the-variants.{Absent, Given}

@@ -8,9 +8,9 @@ use Rattle.ring.specs.Ring.{pageSize, wadd, reqProd, posted, notify, withPosted
 use Rattle.ring.specs.declared.Side.the-variants.{Requests}
 use Rattle.netif.specs.Slot.{Slot, slotWidth, slotCount}
 use Rattle.netif.specs.Encode.{dataBytes, extraBytes}
-use Rattle.netif.specs.Report.{Report, plain, doneWith}
-use Rattle.netif.specs.declared.Verdict.{Verdict}
-use Rattle.netif.specs.declared.Verdict.the-variants.{Good, Bad}
+use Rattle.answer.specs.Report.{Report, plain, doneReport, plainSummary}
+use Rattle.answer.specs.declared.Verdict.{Verdict}
+use Rattle.answer.specs.declared.Verdict.the-variants.{Good, Bad}
 use Rattle.packet.specs.Judge.{judgeGso}
 use Rattle.receive.specs.Put.{badLength, pieceSize, needed, scatter}
 use Rattle.frontend.specs.declared.Gso.{Gso}
@@ -88,7 +88,7 @@ pub record Posting : Type 0 where
 
 -- the number and the words of each answer: posted reports slots and notify
 abbrev pub reportOf : Answer → Report
-reportOf (Posted n notified) = doneWith n notified 0
+reportOf (Posted n notified) = doneReport (plainSummary n 0) notified
 reportOf BadPage = plain 1
 reportOf BadLength = plain 9
 reportOf NoSlots = plain 11
@@ -115,7 +115,7 @@ module _ (table : List ℕ) where
   -- the packet is posted, and its pages hold the frame
   unfoldable pub postPacket : List ℕ → List ℕ → Gso → (refs frame : List ℕ) → Posting
   postPacket page window o refs frame = record {
-    report = doneWith (slotsFor o (length frame)) (notify Requests page (reqProd page) (wadd (reqProd page) (slotsFor o (length frame)))) 0;
+    report = doneReport (plainSummary (slotsFor o (length frame)) 0) (notify Requests page (reqProd page) (wadd (reqProd page) (slotsFor o (length frame))));
     page = withPosted slotWidth slotCount page (packetOf page o refs frame);
     window = scatter window (pagesOf table (usedRefs refs frame)) frame;
   }

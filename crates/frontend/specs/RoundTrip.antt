@@ -5,17 +5,18 @@ use mathlib.Core.List.{List, [], _∷_}
 use Prim.Native.Nat.{ℕ, _+_, _-_, _≤_, _<_}
 use lib.ListN.{length}
 use Rattle.words.specs.Word.{Bytes, splice}
-use Rattle.ring.specs.Ring.{wrap, pageSize, wadd, reqProd, posted, slotAt, slotsFrom}
-use Rattle.netif.specs.Slot.{Slot, slotWidth, slotCount}
-use Rattle.netif.specs.Grammar.{Packet}
-use Rattle.netif.specs.Divide.{whole, divide}
-use Rattle.netif.specs.Report.{goOn}
-use Rattle.netif.specs.declared.Queue.{Queue}
-use Rattle.netif.specs.declared.Verdict.the-variants.{Good}
+use Rattle.ring.specs.Ring.{wrap, pageSize, wadd, reqProd, posted}
+use Rattle.netif.specs.Slot.{Slot, slotCount, transmitSlot, transmitSlots}
+use Rattle.grammar.specs.Grammar.{Packet}
+use Rattle.grammar.specs.Divide.{whole, divide}
+use Rattle.answer.specs.Report.{goOn}
+use Rattle.answer.specs.declared.Queue.{Queue}
+use Rattle.answer.specs.declared.Verdict.the-variants.{Good}
 use Rattle.grant.specs.Grant.{pageOf}
-use Rattle.grant.specs.Found.{SameWord, SamePage}
+use Rattle.grant.specs.Lookup.{SameWord, SamePage}
 use Rattle.packet.specs.Judge.{totalOf, judge}
-use Rattle.transmit.specs.Take.{Outcome, waitingSlots, transmitTake}
+use Rattle.answer.specs.Effect.{Effect}
+use Rattle.transmit.specs.Take.{waitingSlots, transmitTake}
 use Rattle.transmit.specs.Sequence.{State, Published}
 use Rattle.receive.specs.Put.{needed}
 use Rattle.frontend.specs.declared.Gso.{Gso}
@@ -37,10 +38,10 @@ pub record SameSlots (page page′ : List ℕ) (c n more : ℕ) : Type 0 where
   pub size : length page′ ≡ pageSize
   pub requests : reqProd page′ ≡ wadd (reqProd page) more
   pub few : n + more ≤ slotCount
-  pub slots : (i : ℕ) → i < n → slotAt slotWidth slotCount page′ (c + i) ≡ slotAt slotWidth slotCount page (c + i)
+  pub slots : (i : ℕ) → i < n → transmitSlot page′ (c + i) ≡ transmitSlot page (c + i)
 
 -- the frame and the gso fields came back: done, with the frame in the buffer's first bytes
-pub record ComesBack (o : Gso) (frame buffer : List ℕ) (c n : ℕ) (r : Outcome) : Type 0 where
+pub record ComesBack (o : Gso) (frame buffer : List ℕ) (c n : ℕ) (r : Effect) : Type 0 where
   pub done : r .report .answer ≡ 0
   pub noCause : r .report .cause ≡ 0
   pub noPlace : r .report .place ≡ 0
@@ -51,7 +52,7 @@ pub record ComesBack (o : Gso) (frame buffer : List ℕ) (c n : ℕ) (r : Outcom
   pub gsoSizes : r .report .gsoSizeWord ≡ sizeGiven o
   pub gsoTypes : r .report .gsoTypeWord ≡ typeGiven o
   pub queue : r .queue ≡ goOn (wadd c n)
-  pub frameBytes : r .frame ≡ splice buffer 0 frame
+  pub frameBytes : r .buffer ≡ splice buffer 0 frame
 
 -- what is posted, with its slots, req_prod, pages and grants untouched since, comes back from the transmit call at its first slot, unhalted
 -- and with room
@@ -86,12 +87,12 @@ NotPast page read sent = posted page sent ≤ posted page read
 -- over, and at most 256 are then there. What joins the run is a packet
 pub record Publishes (s : State) (page : List ℕ) (p : List Slot) : Type 0 where
   pub published : Published s page (length p)
-  pub joins : slotsFrom slotWidth slotCount page (reqProd (s .page)) (length p) ≡ p
+  pub joins : transmitSlots page (reqProd (s .page)) (length p) ≡ p
   pub packet : Packet p
 
 unfoldable pub PostPublishes : Type 0
 PostPublishes =
     (table window : List ℕ) (s : State) (read : ℕ) (o : Gso) (refs frame : List ℕ) → Bytes (s .page) → typeGiven o < 256
-    → NotPast (s .page) read (s .queue .consumed)
+    → NotPast (s .page) read (s .consumed)
     → post table (s .page) window read o refs frame .report .answer ≡ 0
     → Publishes s (post table (s .page) window read o refs frame .page) (packetOf (s .page) o refs frame)

@@ -22,7 +22,7 @@ pub record Searched (table window refs : List ℕ) (count : ℕ) (pages : List �
   pub named : r ≡ Apart → take count pages ≡ pagesOf table (take count refs)
 
 -- answer 12 was looked for; where it does not hold, the table starts with the pages
-pub record Sorted (table window refs : List ℕ) (count : ℕ) (pages : List ℕ) (r : Bool) : Type 0 where
+pub record PagesTested (table window refs : List ℕ) (count : ℕ) (pages : List ℕ) (r : Bool) : Type 0 where
   pub answer : r ≡ badPages table window refs count
   pub named : r ≡ false → take count pages ≡ pagesOf table (take count refs)
 

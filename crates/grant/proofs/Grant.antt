@@ -13,7 +13,7 @@ use Rattle.words.specs.Word.{u32At, bit}
 use Rattle.words.proofs.Word.{no-confusion, and-both}
 use Rattle.words.proofs.Lists.{part-part}
 use Rattle.grant.specs.Grant.{hasWord, wordBits, granted, writable, usable, pageOf, rangeStart, rangeLength, rangeEnd, rangeInPage, wholePage, inRange, fitTransmit, fitReceive, pagePart, windowPart, rangeOf}
-use Rattle.grant.specs.Found.{readPage, writePage, sourceOf, pageCause, sourceCause, WithinGrant, LookedUp}
+use Rattle.grant.specs.Lookup.{readPage, writePage, sourceOf, pageCause, sourceCause, WithinGrant, LookedUp}
 use Rattle.grant.specs.declared.Page.the-variants as page
 use Rattle.grant.specs.declared.Source.the-variants as source
 

@@ -12,7 +12,7 @@ use borrow.Author.Tests.{le-leb}
 use Rattle.words.specs.Word.{u16At, u32At, splice}
 use Rattle.words.proofs.Word.{lt-or-ge, part-same, splice-length, splice-before, splice-after}
 use Rattle.grant.specs.Grant.{hasWord, wordBits, granted, pageOf, rangeStart, rangeLength, rangeEnd, rangeInPage, inRange, usable, fitTransmit, pagePart, withPage}
-use Rattle.grant.specs.Found.{SameWord, SamePage}
+use Rattle.grant.specs.Lookup.{SameWord, SamePage}
 use Rattle.grant.proofs.Grant.{word-in, has-word, fit-word, fit-granted, fit-range}
 
 -- ---- a word that stayed

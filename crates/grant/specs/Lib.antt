@@ -1,3 +1,3 @@
 -- The definitions that the promises cite, in reading order.
 pub mod Grant
-pub mod Found
+pub mod Lookup

@@ -4,7 +4,7 @@ ghost use mathlib.Core.Bool.{true};
 ghost use Prim.Native.Nat.{_+_, _*_, _≤_};
 ghost use lib.ListN.{length};
 ghost use Rattle.grant.specs.Grant.{hasWord, writable, rangeStart, rangeLength, rangeEnd, wholePage, withPage};
-ghost use Rattle.grant.specs.Found.{readPage, writePage, sourceOf, LookedUp};
+ghost use Rattle.grant.specs.Lookup.{readPage, writePage, sourceOf, LookedUp};
 
 const WORD: usize = 8;
 

@@ -4,6 +4,7 @@ use mathlib.Core.Bool.{Bool}
 use Prim.Native.Nat.{ℕ}
 use lib.Dec.{eqb}
 use Rattle.words.specs.Word.{byteAt, u16At, u32At, u16Bytes, bit}
+use Rattle.ring.specs.Ring.{slotAt, slotsFrom}
 
 -- the transmit ring's slots, and the receive ring's: their width in bytes and their number
 abbrev pub slotWidth : ℕ
@@ -21,6 +22,19 @@ requestCount = 256
 -- a slot is its bytes
 abbrev pub Slot : Type 0
 Slot = List ℕ
+
+-- slot n of the transmit ring, and of the receive ring; and the k slots from slot n on
+abbrev pub transmitSlot : (page : List ℕ) (n : ℕ) → Slot
+transmitSlot page n = slotAt slotWidth slotCount page n
+
+abbrev pub transmitSlots : (page : List ℕ) (n k : ℕ) → List Slot
+transmitSlots page n k = slotsFrom slotWidth slotCount page n k
+
+abbrev pub receiveSlot : (page : List ℕ) (n : ℕ) → Slot
+receiveSlot page n = slotAt requestWidth requestCount page n
+
+abbrev pub receiveSlots : (page : List ℕ) (n k : ℕ) → List Slot
+receiveSlots page n k = slotsFrom requestWidth requestCount page n k
 
 -- a data slot: gref at byte 0, offset at 4, flags at 6, id at 8, size at 10
 unfoldable pub gref : Slot → ℕ

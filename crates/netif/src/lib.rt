@@ -1,61 +1,10 @@
-// Slots of the network rings, what a call answers, and the divider that reads a packet off a transmit ring.
-pub mod divider;
-
+// Slots of the network rings: their bytes taken apart.
 ghost use mathlib.Core.Path.{_≡_};
 ghost use lib.ListN.{length};
 ghost use Rattle.words.specs.Word.{bit};
-ghost use Rattle.ring.specs.Ring.{pageSize, slotAt};
-ghost use Rattle.netif.specs.Slot.{slotWidth, slotCount, requestWidth, requestCount};
+ghost use Rattle.ring.specs.Ring.{pageSize};
+ghost use Rattle.netif.specs.Slot.{slotWidth, requestWidth, transmitSlot, receiveSlot};
 ghost use Rattle.netif.specs.Decode.{dataOf, extraOf, requestOf};
-
-// A ring's counter of slots consumed, and its halted mark.
-pub struct Queue {
-    pub consumed: u32,
-    pub halted: bool,
-}
-
-// What a done call reports.
-pub struct Summary {
-    pub slots: u32,
-    pub notify: bool,
-    pub total: u32,
-    pub checksum_blank: bool,
-    pub data_validated: bool,
-    pub gso_size: u16,
-    pub gso_type: u8,
-}
-
-// What a call answers.
-pub enum Answer {
-    Done(Summary),
-    BadPage,
-    HaltedAlready,
-    Overflow,
-    Empty,
-    Misshapen,
-    Waiting,
-    Spoiled {
-        cause: u32,
-        place: u32,
-        slots: u32,
-        notify: bool,
-    },
-    NoRoom,
-    BadLength,
-    NoBuffers,
-}
-
-// The answer of a call, and the queue as it leaves it.
-pub struct Outcome {
-    pub answer: Answer,
-    pub queue: Queue,
-}
-
-// Whether a packet or the requests for a frame are good, or the first cause found and its place.
-pub enum Verdict {
-    Good,
-    Bad { cause: u32, place: u32 },
-}
 
 // A data slot of the transmit ring.
 pub struct DataSlot {
@@ -70,6 +19,15 @@ impl DataSlot {
     pub const WIDTH: usize = 12;
 
     pub const COUNT: u32 = 256;
+
+    // The bits of the flags.
+    const CHECKSUM_BLANK: u32 = 0;
+
+    const DATA_VALIDATED: u32 = 1;
+
+    const MORE_DATA: u32 = 2;
+
+    const EXTRA_FOLLOWS: u32 = 3;
 
     // A data slot's bytes taken apart.
     pub fn decode(b: &[u8]) -> Self
@@ -88,37 +46,37 @@ impl DataSlot {
     // The data slot at a counter.
     pub fn at(page: &[u8], n: u32) -> Self
         requires { ⌜ length (now page) ≡ pageSize ⌝ }
-        ensures { λ r. ⌜ r ≡ dataOf (slotAt slotWidth slotCount (now (page .entry)) n) ⌝ }
+        ensures { λ r. ⌜ r ≡ dataOf (transmitSlot (now (page .entry)) n) ⌝ }
     {
         Self::decode(ring::slot(page, Self::WIDTH, Self::COUNT, n))
     }
 
-    // Bit 0 of the flags.
+    // Whether the frame's checksum is blank.
     pub fn checksum_blank(self) -> bool
         ensures { λ r. ⌜ r ≡ bit 0 (self .flags) ⌝ }
     {
-        words::bit_of(self.flags as u32, 0)
+        words::bit_of(self.flags as u32, Self::CHECKSUM_BLANK)
     }
 
-    // Bit 1 of the flags.
+    // Whether the frame's data is validated.
     pub fn data_validated(self) -> bool
         ensures { λ r. ⌜ r ≡ bit 1 (self .flags) ⌝ }
     {
-        words::bit_of(self.flags as u32, 1)
+        words::bit_of(self.flags as u32, Self::DATA_VALIDATED)
     }
 
-    // Bit 2 of the flags.
+    // Whether it announces more data.
     pub fn more_data(self) -> bool
         ensures { λ r. ⌜ r ≡ bit 2 (self .flags) ⌝ }
     {
-        words::bit_of(self.flags as u32, 2)
+        words::bit_of(self.flags as u32, Self::MORE_DATA)
     }
 
-    // Bit 3 of the flags.
+    // Whether it announces an extra.
     pub fn extra_follows(self) -> bool
         ensures { λ r. ⌜ r ≡ bit 3 (self .flags) ⌝ }
     {
-        words::bit_of(self.flags as u32, 3)
+        words::bit_of(self.flags as u32, Self::EXTRA_FOLLOWS)
     }
 }
 
@@ -134,6 +92,12 @@ impl Extra {
     pub const WIDTH: usize = 12;
 
     pub const COUNT: u32 = 256;
+
+    // The type of an extra that carries gso fields.
+    pub const GSO: u8 = 1;
+
+    // The bit of the flags that announces another.
+    const ANOTHER: u32 = 0;
 
     // An extra's bytes taken apart.
     pub fn decode(b: &[u8]) -> Self
@@ -151,16 +115,16 @@ impl Extra {
     // The extra at a counter.
     pub fn at(page: &[u8], n: u32) -> Self
         requires { ⌜ length (now page) ≡ pageSize ⌝ }
-        ensures { λ r. ⌜ r ≡ extraOf (slotAt slotWidth slotCount (now (page .entry)) n) ⌝ }
+        ensures { λ r. ⌜ r ≡ extraOf (transmitSlot (now (page .entry)) n) ⌝ }
     {
         Self::decode(ring::slot(page, Self::WIDTH, Self::COUNT, n))
     }
 
-    // Bit 0 of the flags.
+    // Whether it announces another.
     pub fn another_follows(self) -> bool
         ensures { λ r. ⌜ r ≡ bit 0 (self .flags) ⌝ }
     {
-        words::bit_of(self.flags as u32, 0)
+        words::bit_of(self.flags as u32, Self::ANOTHER)
     }
 }
 
@@ -189,7 +153,7 @@ impl Request {
     // The request at a counter.
     pub fn at(page: &[u8], n: u32) -> Self
         requires { ⌜ length (now page) ≡ pageSize ⌝ }
-        ensures { λ r. ⌜ r ≡ requestOf (slotAt requestWidth requestCount (now (page .entry)) n) ⌝ }
+        ensures { λ r. ⌜ r ≡ requestOf (receiveSlot (now (page .entry)) n) ⌝ }
     {
         Self::decode(ring::slot(page, Self::WIDTH, Self::COUNT, n))
     }

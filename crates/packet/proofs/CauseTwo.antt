@@ -8,12 +8,13 @@ use native.Mathlib.Omega.{arith}
 use lib.Dec.{ltb, eqb}
 use borrow.Author.Tests.{le-ltb}
 use Rattle.words.specs.Word.{Bytes}
+use Rattle.words.proofs.Word.{no-confusion}
 use Rattle.grant.specs.Grant.{inRange, fitTransmit}
-use Rattle.netif.specs.Packet.{firstOf, laterOf, sizes, gsoSizeOf, gsoTypeOf}
+use Rattle.grammar.specs.Packet.{firstOf, laterOf, sizes, gsoSizeOf, gsoTypeOf}
 use Rattle.netif.specs.Slot.{Slot, gref, offset, size}
-use Rattle.netif.specs.declared.Verdict.{Verdict}
-use Rattle.netif.specs.declared.Verdict.the-variants.{Good, Bad}
-use Rattle.netif.specs.Verdict.{_orElse_, test}
+use Rattle.answer.specs.declared.Verdict.{Verdict}
+use Rattle.answer.specs.declared.Verdict.the-variants.{Good, Bad}
+use Rattle.answer.specs.Verdict.{_orElse_, test}
 use Rattle.packet.specs.Judge.{totalOf, ownPart, judgeSizes, judgeGso, judgeSlot, judgeLater, judgeSlots, judge}
 use Rattle.packet.proofs.Judge.{total-small}
 
@@ -27,7 +28,7 @@ sizes-as-listed p later b = rw (le-ltb 65535 (totalOf p) (total-small p b))
 
 module _ (k : ℕ) where
   not-good : Good ≡ Bad 2 k → ⊥
-  not-good h = let z : _≡_ {A = ℕ} 0 1 = cc in omega arith
+  not-good h = no-confusion cc
 
   not-test : (b : Bool) (c j : ℕ) → (c ≡ 2 → ⊥) → test b c j ≡ Bad 2 k → ⊥
   not-test true c j a h = a (cc)

@@ -3,11 +3,11 @@
 use mathlib.Core.Path.{_≡_, refl}
 use mathlib.Core.List.{List, [], _∷_}
 use Prim.Native.Nat.{ℕ, suc}
-use Rattle.grant.specs.Found.{CoveredAlike}
+use Rattle.grant.specs.Lookup.{CoveredAlike}
 use Rattle.grant.proofs.Grant.{fit-alike, part-alike}
-use Rattle.netif.specs.Packet.{firstOf, laterOf}
+use Rattle.grammar.specs.Packet.{firstOf, laterOf}
 use Rattle.netif.specs.Slot.{Slot, gref, offset, size}
-use Rattle.netif.specs.declared.Verdict.the-variants.{Good}
+use Rattle.answer.specs.declared.Verdict.the-variants.{Good}
 use Rattle.packet.specs.Judge.{ownPart, judgeSlot, judgeLater, judgeSlots, judge, partOf, laterParts, frameOf}
 use Rattle.packet.proofs.Judge.{orElse-good, slot-granted, good-parts}
 

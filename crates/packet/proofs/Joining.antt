@@ -9,7 +9,7 @@ use lib.Seq.{take-suc, length-take-le}
 use Rattle.grant.specs.Grant.{pagePart}
 use Rattle.words.specs.Word.{splice}
 use Rattle.words.proofs.Word.{splice-join, splice-length}
-use Rattle.packet.specs.Plan.{joined, InWindow}
+use Rattle.packet.specs.Stages.{joined, InWindow}
 
 pub part-size : (window : List ℕ) (p o s : ℕ) → 4096 * p + 4096 ≤ length window → o + s ≤ 4096 → length (pagePart window p o s) ≡ s
 unfolding pagePart

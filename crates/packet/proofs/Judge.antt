@@ -10,22 +10,22 @@ use borrow.Author.Tests.{ltb-false, not-false}
 use Rattle.words.specs.Word.{Bytes}
 use Rattle.grant.specs.Grant.{inRange, fitTransmit}
 use Rattle.grant.proofs.Grant.{part-length}
-use Rattle.netif.specs.Packet.{firstOf, laterOf, sizes}
+use Rattle.grammar.specs.Packet.{firstOf, laterOf, sizes}
 use Rattle.netif.specs.Slot.{Slot, gref, offset, size}
 use Rattle.packet.specs.Judge.{totalOf, ownPart, judgeSizes, judgeSlot, judgeLater, judgeSlots, judge, partOf, laterParts, frameOf}
-use Rattle.netif.specs.declared.Verdict.{Verdict}
-use Rattle.netif.specs.declared.Verdict.the-variants.{Good, Bad}
-use Rattle.netif.specs.Verdict.{_orElse_, test}
-use Rattle.words.proofs.Word.{u16-small}
+use Rattle.answer.specs.declared.Verdict.{Verdict}
+use Rattle.answer.specs.declared.Verdict.the-variants.{Good, Bad}
+use Rattle.answer.specs.Verdict.{_orElse_, test}
+use Rattle.words.proofs.Word.{no-confusion, u16-small}
 
 -- ---- judging
 
 pub orElse-good : (v u : Verdict) → v orElse u ≡ Good → (v ≡ Good) × (u ≡ Good)
 orElse-good Good u h = (refl, h)
-orElse-good (Bad c k) u h = absurd (let z : _≡_ {A = ℕ} 0 1 = cc in omega arith)
+orElse-good (Bad c k) u h = no-confusion cc
 
 pub test-good : (b : Bool) (c k : ℕ) → test b c k ≡ Good → b ≡ false
-test-good true c k h = absurd (let z : _≡_ {A = ℕ} 0 1 = cc in omega arith)
+test-good true c k h = no-confusion cc
 test-good false c k h = refl
 
 pub sizes-good : (total later : ℕ) → judgeSizes total later ≡ Good → later ≤ total

@@ -5,11 +5,11 @@ use mathlib.Core.Bool.{not, _||_}
 use Prim.Native.Nat.{ℕ, zero, suc, _+_, _-_}
 use lib.Dec.{ltb, eqb}
 use Rattle.grant.specs.Grant.{inRange, fitTransmit, windowPart}
-use Rattle.netif.specs.declared.Verdict.{Verdict}
-use Rattle.netif.specs.declared.Verdict.the-variants.{Good}
-use Rattle.netif.specs.Verdict.{_orElse_, test}
+use Rattle.answer.specs.declared.Verdict.{Verdict}
+use Rattle.answer.specs.declared.Verdict.the-variants.{Good}
+use Rattle.answer.specs.Verdict.{_orElse_, test}
 use Rattle.netif.specs.Slot.{Slot, gref, offset, ident, size, null, transmitReply}
-use Rattle.netif.specs.Packet.{firstOf, extrasOf, laterOf, sizes, gsoSizeOf, gsoTypeOf}
+use Rattle.grammar.specs.Packet.{firstOf, extrasOf, laterOf, sizes, gsoSizeOf, gsoTypeOf}
 
 -- ---- sizes and parts
 

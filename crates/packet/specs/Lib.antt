@@ -1,4 +1,3 @@
 -- The definitions that the promises cite, in reading order.
 pub mod Judge
-pub mod Plan
 pub mod Stages

@@ -6,12 +6,10 @@ ghost use Rattle.ring.specs.Ring.{pageSize};
 ghost use Rattle.receive.specs.Put.{badLength, needed};
 ghost use Rattle.frontend.specs.Post.{badGso, post};
 ghost use Rattle.frontend.specs.Stages.{Posts};
+use answer::Verdict;
 use frontend::Answer;
 use frontend::Gso;
 use grant::Page;
-use netif::Verdict;
-use posting::pages;
-use posting::slots;
 
 // Whether cause 6 would refuse it.
 fn bad_gso(gso: Gso) -> bool
@@ -19,7 +17,7 @@ fn bad_gso(gso: Gso) -> bool
 {
     match gso {
         Gso::Absent => false,
-        Gso::Given { size, kind } => match packet::judging::judge_gso(1, size, kind) {
+        Gso::Given { size, kind } => match causes::judge_gso(1, size, kind) {
             Verdict::Good => false,
             Verdict::Bad { cause, place } => true,
         },
@@ -53,11 +51,11 @@ fn post_one(
         return Answer::BadPages;
     };
     let slots = 1 + posting::extras_of(gso);
-    if slots::free(ring, read) < slots {
+    if posting::free(ring, read) < slots {
         return Answer::NoSlots;
     }
     grant::write(window, page, frame);
-    let notify = slots::put_packet(ring, gso, references, 1, frame);
+    let notify = posting::put_packet(ring, gso, references, 1, frame);
     Answer::Posted { slots, notify }
 }
 
@@ -82,16 +80,16 @@ fn post_pages(
         (post (now (grants .entry)) (now (ring .entry)) (now (window .entry)) read gso (now (references .entry)) (now (frame .entry)))
         r (now (ring .exit)) (now (window .exit)) ⌝ }
 {
-    let mut pages = [0u32; pages::MOST];
-    if pages::bad_pages(grants, window, references, count, &mut pages) {
+    let mut pages = [0u32; pieces::MOST];
+    if searching::bad_pages(grants, window, references, count, &mut pages) {
         return Answer::BadPages;
     }
     let slots = count + posting::extras_of(gso);
-    if slots::free(ring, read) < slots {
+    if posting::free(ring, read) < slots {
         return Answer::NoSlots;
     }
-    receive::scatter(window, &pages, count as usize, frame);
-    let notify = slots::put_packet(ring, gso, references, count, frame);
+    pieces::scatter(window, &pages, count as usize, frame);
+    let notify = posting::put_packet(ring, gso, references, count, frame);
     Answer::Posted { slots, notify }
 }
 
@@ -113,13 +111,13 @@ pub fn post(
     if !ring::is_page(ring) {
         return Answer::BadPage;
     }
-    if receive::bad_length(frame.len()) {
+    if pieces::bad_length(frame.len()) {
         return Answer::BadLength;
     }
     if bad_gso(gso) {
         return Answer::BadGso;
     }
-    let count = receive::needed(frame.len());
+    let count = pieces::needed(frame.len());
     if count == 1 {
         return post_one(read, gso, grants, window, references, ring, frame);
     }

@@ -6,8 +6,8 @@ use native.Mathlib.Omega.{arith}
 use lib.ListN.{length, getD, length-append}
 use borrow.Author.Tests.{eq-eqb}
 use Rattle.netif.specs.Slot.{Slot, slotWidth, slotCount}
-use Rattle.netif.specs.Grammar.{AllPackets, joinAll}
-use Rattle.netif.proofs.Grammar.{packet-some}
+use Rattle.grammar.specs.Grammar.{AllPackets, joinAll}
+use Rattle.grammar.proofs.Grammar.{packet-some}
 use Rattle.division.specs.Answer.{DividedAs}
 use Rattle.division.specs.declared.Divided.{Divided}
 use Rattle.division.specs.declared.Divided.the-variants as divided

@@ -10,16 +10,15 @@ use lib.Seq.{drop-drop, take-all}
 use lib.Dec.{ltb}
 use borrow.Author.Tests.{lt-ltb, le-ltb}
 use Rattle.words.specs.Word.{u16At, u16Bytes, splice}
-use Rattle.words.proofs.Word.{lt-or-ge}
-use Rattle.ring.specs.Ring.{wadd, notify, slotPlace, slotAt, withSlots}
+use Rattle.words.proofs.Word.{lt-or-ge, splice-join}
+use Rattle.ring.specs.Ring.{wadd, withProducer, slotPlace, withSlots}
 use Rattle.ring.specs.declared.Side.the-variants.{Replies}
-use Rattle.ring.proofs.Ring.{Short, place-fits, slots-at, slots-length, slot-u16}
+use Rattle.ring.proofs.Ring.{Short, short-map, place-fits, slots-at, slots-length, slot-u16}
 use Rattle.grant.specs.Grant.{withPage}
-use Rattle.netif.specs.Slot.{Slot, error, requestIdent, receiveReply}
-use Rattle.receive.specs.Put.{requestsFrom, scatter, replyFlags, pieceReplies, errorReply, errorReplies}
-use Rattle.ring.proofs.Replied.{reply-next, notify-replied}
+use Rattle.netif.specs.Slot.{Slot, error, requestIdent, receiveReply, receiveSlot, receiveSlots}
+use Rattle.receive.specs.Put.{scatter, replyFlags, pieceReplies, errorReply, errorReplies}
+use Rattle.ring.proofs.Replied.{reply-next, reply-stands}
 use Rattle.words.proofs.Lists.{take-min, part-cons, map-at}
-use Rattle.words.proofs.Word.{splice-join}
 
 -- ---- the pieces written
 
@@ -65,8 +64,7 @@ pieces-short [] frame = tt
 pieces-short (s ∷ l) frame = (omega (arith, reply-length (requestIdent s) (replyFlags (ltb 0 (length l))) (length (take 4096 frame))), pieces-short l (drop 4096 frame))
 
 pub errors-short : (l : List Slot) → Short 8 (errorReplies l)
-errors-short [] = tt
-errors-short (s ∷ l) = (omega (arith, reply-length (requestIdent s) 0 error), errors-short l)
+errors-short = short-map 8 errorReply (λ (s : Slot). omega (arith, reply-length (requestIdent s) 0 error))
 
 pub pieces-length : (l : List Slot) (frame : List ℕ) → length (pieceReplies l frame) ≡ length l
 pieces-length [] frame = refl
@@ -93,26 +91,26 @@ piece-at (s ∷ l) frame (suc i) h =
     (drop-drop (4096 * i) 4096 frame ∙ ap (λ (x : ℕ). drop x frame) z)
 
 module _ (page : List ℕ) (first count i : ℕ) (few : i < count) where
-  here : getD (requestsFrom page first count) i [] ≡ slotAt 8 256 page (first + i)
+  here : getD (receiveSlots page first count) i [] ≡ receiveSlot page (first + i)
   here = slots-at 8 256 page count first i few
 
-  pub error-here : getD (errorReplies (requestsFrom page first count)) i [] ≡ errorReply (slotAt 8 256 page (first + i))
-  error-here = map-at errorReply (requestsFrom page first count) i [] [] (omega (arith, slots-length 8 256 page count first)) ∙ ap errorReply here
+  pub error-here : getD (errorReplies (receiveSlots page first count)) i [] ≡ errorReply (receiveSlot page (first + i))
+  error-here = map-at errorReply (receiveSlots page first count) i [] [] (omega (arith, slots-length 8 256 page count first)) ∙ ap errorReply here
 
   pub piece-here : (frame : List ℕ) (flags status : ℕ) → flags ≡ replyFlags (ltb (i + 1) count) → status ≡ min 4096 (length frame - 4096 * i)
-      → getD (pieceReplies (requestsFrom page first count) frame) i [] ≡ receiveReply (requestIdent (slotAt 8 256 page (first + i))) 0 flags status
+      → getD (pieceReplies (receiveSlots page first count) frame) i [] ≡ receiveReply (requestIdent (receiveSlot page (first + i))) 0 flags status
   piece-here frame flags status p q =
-      let all : length (requestsFrom page first count) ≡ count = slots-length 8 256 page count first in
-      let f : replyFlags (ltb 0 (length (drop (suc i) (requestsFrom page first count)))) ≡ flags
-      = ap (λ (n : ℕ). replyFlags (ltb 0 n)) (length-drop (suc i) (requestsFrom page first count) ∙ ap (_- suc i) all) ∙ ap replyFlags (follows i count) ∙ sym p in
+      let all : length (receiveSlots page first count) ≡ count = slots-length 8 256 page count first in
+      let f : replyFlags (ltb 0 (length (drop (suc i) (receiveSlots page first count)))) ≡ flags
+      = ap (λ (n : ℕ). replyFlags (ltb 0 n)) (length-drop (suc i) (receiveSlots page first count) ∙ ap (_- suc i) all) ∙ ap replyFlags (follows i count) ∙ sym p in
       let s : length (take 4096 (drop (4096 * i) frame)) ≡ status
       = length-take 4096 (drop (4096 * i) frame) ∙ ap (min 4096) (length-drop (4096 * i) frame) ∙ sym q in
-      piece-at (requestsFrom page first count) frame i (omega arith) ∙ rw (here, f, s)
+      piece-at (receiveSlots page first count) frame i (omega arith) ∙ rw (here, f, s)
 
 -- ---- one reply: its own id stands where the request had it
 
 module _ (page : List ℕ) (n : ℕ) where
-  id-here : requestIdent (slotAt 8 256 page n) ≡ u16At page (slotPlace 8 256 n)
+  id-here : requestIdent (receiveSlot page n) ≡ u16At page (slotPlace 8 256 n)
   unfolding requestIdent
   id-here = slot-u16 8 256 page n 0 (omega arith) ∙ ap (u16At page) (add-zero (slotPlace 8 256 n))
 
@@ -122,10 +120,10 @@ module _ (page : List ℕ) (n : ℕ) where
 
   pub reply-stored : (mid last : List ℕ) (at id flags status : ℕ) → length page ≡ 4096 → at ≡ slotPlace 8 256 n → id ≡ u16At page at
       → mid ≡ splice page (slotPlace 8 256 n) (u16Bytes id ++ u16Bytes 0) → last ≡ splice mid (at + 4) (u16Bytes flags ++ u16Bytes status)
-      → last ≡ splice page (slotPlace 8 256 n) (receiveReply (requestIdent (slotAt 8 256 page n)) 0 flags status)
+      → last ≡ splice page (slotPlace 8 256 n) (receiveReply (requestIdent (receiveSlot page n)) 0 flags status)
   unfolding receiveReply
   reply-stored mid last at id flags status size a r p q =
-      let same : requestIdent (slotAt 8 256 page n) ≡ id = id-here ∙ sym (r ∙ ap (u16At page) a) in
+      let same : requestIdent (receiveSlot page n) ≡ id = id-here ∙ sym (r ∙ ap (u16At page) a) in
       q
       ∙ ap (λ (x : List ℕ). splice x (at + 4) (u16Bytes flags ++ u16Bytes status)) p
       ∙ splice-join page (slotPlace 8 256 n) (u16Bytes id ++ u16Bytes 0) (u16Bytes flags ++ u16Bytes status) (at + 4) (omega (arith, pair-length id 0))
@@ -135,37 +133,45 @@ module _ (page : List ℕ) (n : ℕ) where
 -- ---- the loops that reply
 
 module _ (page : List ℕ) (size : length page ≡ 4096) (first count : ℕ) (few : count ≤ 16) where
-  error-count : length (errorReplies (requestsFrom page first count)) ≡ count
-  error-count = errors-length (requestsFrom page first count) ∙ slots-length 8 256 page count first
+  error-count : length (errorReplies (receiveSlots page first count)) ≡ count
+  error-count = errors-length (receiveSlots page first count) ∙ slots-length 8 256 page count first
 
-  pub errors-next : (n i : ℕ) (now next : List ℕ) → i < count → n ≡ wadd first i → now ≡ withSlots 8 256 page first (take i (errorReplies (requestsFrom page first count)))
-      → next ≡ splice now (slotPlace 8 256 n) (errorReply (slotAt 8 256 now n)) → next ≡ withSlots 8 256 page first (take (i + 1) (errorReplies (requestsFrom page first count)))
+  pub errors-next : (n i : ℕ) (now next : List ℕ) → i < count → n ≡ wadd first i → now ≡ withSlots 8 256 page first (take i (errorReplies (receiveSlots page first count)))
+      → next ≡ splice now (slotPlace 8 256 n) (errorReply (receiveSlot now n)) → next ≡ withSlots 8 256 page first (take (i + 1) (errorReplies (receiveSlots page first count)))
   errors-next n i now next h a p q =
-      reply-next 8 256 (omega arith) refl page (omega arith) first (errorReplies (requestsFrom page first count)) (errors-short (requestsFrom page first count)) (omega (arith, error-count))
+      reply-next 8 256 (omega arith) refl page (omega arith) first (errorReplies (receiveSlots page first count)) (errors-short (receiveSlots page first count)) (omega (arith, error-count))
       errorReply n i now next (omega (arith, error-count)) a (error-here page first count i h) p q
 
-  pub errors-last : (i : ℕ) (now : List ℕ) → i ≡ count → now ≡ withSlots 8 256 page first (take i (errorReplies (requestsFrom page first count))) → now ≡ withSlots 8 256 page first (errorReplies (requestsFrom page first count))
-  errors-last i now h p = p ∙ ap (withSlots 8 256 page first) (take-all i (errorReplies (requestsFrom page first count)) (omega (arith, error-count)))
+  pub errors-last : (i : ℕ) (now : List ℕ) → i ≡ count → now ≡ withSlots 8 256 page first (take i (errorReplies (receiveSlots page first count))) → now ≡ withSlots 8 256 page first (errorReplies (receiveSlots page first count))
+  errors-last i now h p = p ∙ ap (withSlots 8 256 page first) (take-all i (errorReplies (receiveSlots page first count)) (omega (arith, error-count)))
 
-  pub errors-notify : (old new : ℕ) → notify Replies (withSlots 8 256 page first (errorReplies (requestsFrom page first count))) old new ≡ notify Replies page old new
-  errors-notify old new =
-      notify-replied 8 256 (omega arith) page (omega arith) first (errorReplies (requestsFrom page first count)) (errors-short (requestsFrom page first count)) Replies old new
+  -- each request refused has its reply in the first bytes of its slot, and the slot's others stay
+  pub error-stands : (new i : ℕ) → i < count
+      → receiveSlot (withProducer Replies (withSlots 8 256 page first (errorReplies (receiveSlots page first count))) new) (first + i)
+      ≡ splice (receiveSlot page (first + i)) 0 (errorReply (receiveSlot page (first + i)))
+  error-stands new i h =
+      reply-stands 8 256 (omega arith) page (omega arith) first (errorReplies (receiveSlots page first count)) (errors-short (receiveSlots page first count)) (omega (arith, error-count))
+      new i (omega (arith, error-count)) _ (error-here page first count i h)
 
   module _ (frame : List ℕ) where
-    piece-count : length (pieceReplies (requestsFrom page first count) frame) ≡ count
-    piece-count = pieces-length (requestsFrom page first count) frame ∙ slots-length 8 256 page count first
+    piece-count : length (pieceReplies (receiveSlots page first count) frame) ≡ count
+    piece-count = pieces-length (receiveSlots page first count) frame ∙ slots-length 8 256 page count first
 
     pub pieces-next : (n i flags status : ℕ) (now next : List ℕ) → i < count → n ≡ wadd first i → flags ≡ replyFlags (ltb (i + 1) count) → status ≡ min 4096 (length frame - 4096 * i)
-        → now ≡ withSlots 8 256 page first (take i (pieceReplies (requestsFrom page first count) frame))
-        → next ≡ splice now (slotPlace 8 256 n) (receiveReply (requestIdent (slotAt 8 256 now n)) 0 flags status)
-        → next ≡ withSlots 8 256 page first (take (i + 1) (pieceReplies (requestsFrom page first count) frame))
+        → now ≡ withSlots 8 256 page first (take i (pieceReplies (receiveSlots page first count) frame))
+        → next ≡ splice now (slotPlace 8 256 n) (receiveReply (requestIdent (receiveSlot now n)) 0 flags status)
+        → next ≡ withSlots 8 256 page first (take (i + 1) (pieceReplies (receiveSlots page first count) frame))
     pieces-next n i flags status now next h a f s p q =
-        reply-next 8 256 (omega arith) refl page (omega arith) first (pieceReplies (requestsFrom page first count) frame) (pieces-short (requestsFrom page first count) frame) (omega (arith, piece-count))
+        reply-next 8 256 (omega arith) refl page (omega arith) first (pieceReplies (receiveSlots page first count) frame) (pieces-short (receiveSlots page first count) frame) (omega (arith, piece-count))
         (λ (x : Slot). receiveReply (requestIdent x) 0 flags status) n i now next (omega (arith, piece-count)) a (piece-here page first count i h frame flags status f s) p q
 
-    pub pieces-last : (i : ℕ) (now : List ℕ) → i ≡ count → now ≡ withSlots 8 256 page first (take i (pieceReplies (requestsFrom page first count) frame)) → now ≡ withSlots 8 256 page first (pieceReplies (requestsFrom page first count) frame)
-    pieces-last i now h p = p ∙ ap (withSlots 8 256 page first) (take-all i (pieceReplies (requestsFrom page first count) frame) (omega (arith, piece-count)))
+    pub pieces-last : (i : ℕ) (now : List ℕ) → i ≡ count → now ≡ withSlots 8 256 page first (take i (pieceReplies (receiveSlots page first count) frame)) → now ≡ withSlots 8 256 page first (pieceReplies (receiveSlots page first count) frame)
+    pieces-last i now h p = p ∙ ap (withSlots 8 256 page first) (take-all i (pieceReplies (receiveSlots page first count) frame) (omega (arith, piece-count)))
 
-    pub pieces-notify : (old new : ℕ) → notify Replies (withSlots 8 256 page first (pieceReplies (requestsFrom page first count) frame)) old new ≡ notify Replies page old new
-    pieces-notify old new =
-        notify-replied 8 256 (omega arith) page (omega arith) first (pieceReplies (requestsFrom page first count) frame) (pieces-short (requestsFrom page first count) frame) Replies old new
+    -- and so has each request that got a piece
+    pub piece-stands : (new i : ℕ) → i < count
+        → receiveSlot (withProducer Replies (withSlots 8 256 page first (pieceReplies (receiveSlots page first count) frame)) new) (first + i)
+        ≡ splice (receiveSlot page (first + i)) 0 (receiveReply (requestIdent (receiveSlot page (first + i))) 0 (replyFlags (ltb (i + 1) count)) (min 4096 (length frame - 4096 * i)))
+    piece-stands new i h =
+        reply-stands 8 256 (omega arith) page (omega arith) first (pieceReplies (receiveSlots page first count) frame) (pieces-short (receiveSlots page first count) frame) (omega (arith, piece-count))
+        new i (omega (arith, piece-count)) _ (piece-here page first count i h frame (replyFlags (ltb (i + 1) count)) (min 4096 (length frame - 4096 * i)) refl refl)

@@ -1,20 +1,18 @@
 -- Document 01, "Receive": one receive call, in the order of its answers.
-use mathlib.Core.Path.{_≡_}
 use mathlib.Core.List.{List, [], _∷_, map}
 use mathlib.Core.Bool.{Bool, not, cond, _||_}
 use Prim.Native.Nat.{ℕ, suc, _+_, _/_}
 use lib.ListN.{length, take, drop}
 use lib.Dec.{ltb, eqb}
-use Rattle.ring.specs.Ring.{pageSize, posted, asking, notify, wadd, withProducer, slotsFrom, withSlots}
-use Rattle.ring.specs.declared.Side.the-variants.{Replies}
+use Rattle.ring.specs.Ring.{pageSize, posted, withSlots}
 use Rattle.grant.specs.Grant.{fitReceive, pageOf, withPage}
-use Rattle.netif.specs.Slot.{Slot, requestWidth, requestCount, error, requestIdent, requestGref, receiveReply}
-use Rattle.netif.specs.Report.{halt, goOn, Report, plain, spoiledReport, doneWith, reportOf}
-use Rattle.netif.specs.Verdict.{test, _orElse_}
-use Rattle.netif.specs.declared.Queue.{Queue}
-use Rattle.netif.specs.declared.Outcome.{Outcome}
-use Rattle.netif.specs.declared.Verdict.{Verdict}
-use Rattle.netif.specs.declared.Verdict.the-variants.{Good, Bad}
+use Rattle.netif.specs.Slot.{Slot, requestWidth, requestCount, error, requestIdent, requestGref, receiveReply, receiveSlots}
+use Rattle.answer.specs.Report.{spoiledReport, doneReport, plainSummary}
+use Rattle.answer.specs.Effect.{Effect, refusal, consume}
+use Rattle.answer.specs.Verdict.{test, _orElse_}
+use Rattle.answer.specs.declared.Queue.{Queue}
+use Rattle.answer.specs.declared.Verdict.{Verdict}
+use Rattle.answer.specs.declared.Verdict.the-variants.{Good, Bad}
 
 -- a frame is 14 to 65,535 bytes long
 unfoldable pub badLength : ℕ → Bool
@@ -27,10 +25,6 @@ pieceSize = 4096
 -- the requests that it needs, one for each piece: its length by the size of a piece, rounded up
 unfoldable pub needed : ℕ → ℕ
 needed n = (n + 4095) / pieceSize
-
--- k requests from slot n on
-abbrev pub requestsFrom : List ℕ → ℕ → ℕ → List Slot
-requestsFrom page n k = slotsFrom requestWidth requestCount page n k
 
 module _ (table : List ℕ) where
   -- the pages that requests name
@@ -67,66 +61,34 @@ errorReply s = receiveReply (requestIdent s) 0 0 error
 abbrev pub errorReplies : List Slot → List (List ℕ)
 errorReplies l = map errorReply l
 
--- what a call leaves
-pub record Delivery : Type 0 where
-  pub report : Report
-  pub queue : Queue
-  pub page : List ℕ
-  pub window : List ℕ
-
--- an answer whose other fields are 0
-abbrev pub told : ℕ → Queue → List ℕ → List ℕ → Delivery
-told n q page window = record { report = plain n; queue = q; page = page; window = window }
-
--- replies from a counter on, and rsp_prod behind them
-abbrev pub replied : List ℕ → ℕ → ℕ → List (List ℕ) → List ℕ
-replied page old new rs = withProducer Replies (withSlots requestWidth requestCount page old rs) new
-
 -- one of the requests is unfit: all get an error, and no page is written
-unfoldable pub refuse : (old : ℕ) (page window : List ℕ) (requests : List Slot) (cause place : ℕ) → Delivery
+unfoldable pub refuse : (old : ℕ) (page window : List ℕ) (requests : List Slot) (cause place : ℕ) → Effect
 refuse old page window requests cause place =
-    let new = wadd old (length requests) in
-    record {
-      report = spoiledReport cause place (length requests) (notify Replies page old new);
-      queue = goOn new;
-      page = replied page old new (errorReplies requests);
-      window = window;
-    }
+    consume (spoiledReport cause place (length requests)) old (length requests) (withSlots requestWidth requestCount page old (errorReplies requests)) window
 
 -- all are fit: their pages get the pieces of the frame
-unfoldable pub deliver : (old : ℕ) (page window : List ℕ) (requests : List Slot) (pages frame : List ℕ) → Delivery
+unfoldable pub deliver : (old : ℕ) (page window : List ℕ) (requests : List Slot) (pages frame : List ℕ) → Effect
 deliver old page window requests pages frame =
-    let new = wadd old (length requests) in
-    record {
-      report = doneWith (length requests) (notify Replies page old new) (length frame);
-      queue = goOn new;
-      page = replied page old new (pieceReplies requests frame);
-      window = scatter window pages frame;
-    }
+    consume (doneReport (plainSummary (length requests) (length frame))) old (length requests)
+    (withSlots requestWidth requestCount page old (pieceReplies requests frame))
+    (scatter window pages frame)
 
 module _ (table : List ℕ) where
   -- requests are consumed, by what is found of them
-  abbrev pub consume : (old : ℕ) (page window : List ℕ) (requests : List Slot) (frame : List ℕ) → Verdict → Delivery
-  consume old page window requests frame (Bad cause place) = refuse old page window requests cause place
-  consume old page window requests frame Good = deliver old page window requests (pagesNamed table requests) frame
+  abbrev pub settleBy : (old : ℕ) (page window : List ℕ) (requests : List Slot) (frame : List ℕ) → Verdict → Effect
+  settleBy old page window requests frame (Bad cause place) = refuse old page window requests cause place
+  settleBy old page window requests frame Good = deliver old page window requests (pagesNamed table requests) frame
 
   -- all are tested before anything is written
-  abbrev pub settle : (old : ℕ) (page window : List ℕ) (requests : List Slot) (frame : List ℕ) → Delivery
-  settle old page window requests frame = consume old page window requests frame (judge table window 0 requests)
+  abbrev pub settle : (old : ℕ) (page window : List ℕ) (requests : List Slot) (frame : List ℕ) → Effect
+  settle old page window requests frame = settleBy old page window requests frame (judge table window 0 requests)
 
   -- the call: bad page, bad length, halted already, overflow, no buffers, and then spoiled or done
-  unfoldable pub receivePut : Queue → List ℕ → List ℕ → List ℕ → Delivery
+  unfoldable pub receivePut : Queue → List ℕ → List ℕ → List ℕ → Effect
   receivePut q page window frame =
-      cond (not (eqb (length page) pageSize)) (told 1 q page window)
-      (cond (badLength (length frame)) (told 9 q page window)
-      (cond (q .halted) (told 2 q page window)
-      (cond (ltb requestCount (posted page (q .consumed))) (told 3 (halt q) page window)
-      (cond (ltb (posted page (q .consumed)) (needed (length frame))) (told 10 q (asking page) window)
-      (settle (q .consumed) page window (requestsFrom page (q .consumed) (needed (length frame))) frame)))))
-
--- a call's answer, queue, ring page and window are those of a delivery
-pub record Delivered (d : Delivery) (r : Outcome) (ring′ window′ : List ℕ) : Type 0 where
-  pub report : reportOf (r .answer) ≡ d .report
-  pub queue : r .queue ≡ d .queue
-  pub page : ring′ ≡ d .page
-  pub window : window′ ≡ d .window
+      cond (not (eqb (length page) pageSize)) (refusal 1 q page window)
+      (cond (badLength (length frame)) (refusal 9 q page window)
+      (cond (q .halted) (refusal 2 q page window)
+      (cond (ltb requestCount (posted page (q .consumed))) (refusal 3 q page window)
+      (cond (ltb (posted page (q .consumed)) (needed (length frame))) (refusal 10 q page window)
+      (settle (q .consumed) page window (receiveSlots page (q .consumed) (needed (length frame))) frame)))))

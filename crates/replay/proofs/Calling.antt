@@ -16,13 +16,15 @@ use Rattle.replay.specs.Calls.{takes, mostCalls, lengths, lengthOf, Fram
 
 -- a call with its answer
 pub transmit-called : {grants window ring ringAfter frame words : List ℕ} {consumed mark answer consumedAfter markLeft : ℕ} {took : Bool}
-    → TransmitLeaves grants window consumed mark ring (replicate 65535 0) answer consumedAfter markLeft ringAfter frame words
+    → TransmitLeaves grants window consumed mark ring (replicate 65535 0)
+    (record { returned = answer; consumed = consumedAfter; mark = markLeft; page = ringAfter; buffer = frame; words = words })
     → took ≡ takes answer → TransmitCalled grants window consumed mark ring took consumedAfter markLeft ringAfter
 transmit-called left answered = record { answer = _; frame = _; words = _; left = left; answered = answered }
 
 pub receive-called : {grants ring window ringAfter windowAfter frame words : List ℕ} {call consumed mark answer consumedAfter markLeft : ℕ} {took : Bool}
     → FrameOf call frame
-    → ReceiveLeaves grants window consumed mark ring frame answer consumedAfter markLeft ringAfter windowAfter words
+    → ReceiveLeaves grants window consumed mark ring frame
+    (record { returned = answer; consumed = consumedAfter; mark = markLeft; page = ringAfter; buffer = windowAfter; words = words })
     → took ≡ takes answer → ReceiveCalled grants call consumed mark ring window took consumedAfter markLeft ringAfter windowAfter
 receive-called delivers left answered = record { answer = _; frame = _; words = _; delivers = delivers; left = left; answered = answered }
 

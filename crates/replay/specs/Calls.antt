@@ -23,7 +23,8 @@ pub record TransmitCalled (grants window : List ℕ) (consumed mark : ℕ) (ring
   pub answer : ℕ
   pub frame : List ℕ
   pub words : List ℕ
-  pub left : TransmitLeaves grants window consumed mark ring (replicate 65535 0) answer consumedAfter markLeft ringAfter frame words
+  pub left : TransmitLeaves grants window consumed mark ring (replicate 65535 0)
+      (record { returned = answer; consumed = consumedAfter; mark = markLeft; page = ringAfter; buffer = frame; words = words })
   pub answered : took ≡ takes answer
 
 -- transmit calls from one number on, on a queue and a page, with this page at the end
@@ -56,7 +57,8 @@ pub record ReceiveCalled (grants : List ℕ) (call consumed mark : ℕ) (ring wi
   pub frame : List ℕ
   pub words : List ℕ
   pub delivers : FrameOf call frame
-  pub left : ReceiveLeaves grants window consumed mark ring frame answer consumedAfter markLeft ringAfter windowAfter words
+  pub left : ReceiveLeaves grants window consumed mark ring frame
+      (record { returned = answer; consumed = consumedAfter; mark = markLeft; page = ringAfter; buffer = windowAfter; words = words })
   pub answered : took ≡ takes answer
 
 -- receive calls from one number on, on a queue, a page and a window, with these at the end

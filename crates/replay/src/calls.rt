@@ -1,6 +1,6 @@
 // The calls on a ring, one after another, up to and including the first that takes nothing.
 ghost use mathlib.Core.Path.{_≡_};
-ghost use Prim.Native.Nat.{_+_, _*_, _≤_, _<_};
+ghost use Prim.Native.Nat.{_+_, _*_, _<_};
 ghost use lib.ListN.{length};
 ghost use Rattle.ring.specs.Ring.{rspProd};
 ghost use Rattle.io.specs.Counts.{Counts};

@@ -17,8 +17,8 @@ use Rattle.netif.specs.Slot.{Slot, moreData, isExtra, anotherExtra}
 use Rattle.netif.specs.Decode.{dataOf, extraOf}
 use Rattle.netif.specs.declared.DataSlot.{DataSlot}
 use Rattle.netif.specs.declared.Extra.{Extra}
-use Rattle.netif.specs.Grammar.{isLater}
-use Rattle.netif.proofs.Loop.{kind-other, kind-extra, another-bit, more-bit, follows-bit}
+use Rattle.grammar.specs.Grammar.{isLater}
+use Rattle.grammar.proofs.Loop.{kind-other, kind-extra, another-bit, more-bit, follows-bit}
 use Rattle.division.specs.Run.{slotIn, slotsIn}
 use Rattle.division.specs.Shape.{alike, linkAt, begun, follows, leads, shaped}
 use Rattle.shape.specs.Kinds.{rightOf, announcesOf}

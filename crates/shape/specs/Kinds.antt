@@ -1,7 +1,7 @@
 -- The two kinds of slots behind a packet's first.
 use mathlib.Core.Bool.{Bool}
 use Rattle.netif.specs.Slot.{Slot, moreData, isExtra, anotherExtra}
-use Rattle.netif.specs.Grammar.{isLater}
+use Rattle.grammar.specs.Grammar.{isLater}
 use Rattle.shape.specs.declared.Kind.{Kind}
 use Rattle.shape.specs.declared.Kind.the-variants as kind
 

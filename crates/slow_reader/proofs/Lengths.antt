@@ -8,8 +8,8 @@ use native.Mathlib.Omega.{arith}
 use lib.ListN.{length, length-append}
 use Rattle.words.proofs.Lists.{one-begins, append-cancel, length-zero}
 use Rattle.netif.specs.Slot.{Slot}
-use Rattle.netif.specs.Grammar.{Packet, Begins, BeginsProperly, NoneAtFront, MisshapenFront}
-use Rattle.netif.proofs.Grammar.{packet-alone, misshapen-stays}
+use Rattle.grammar.specs.Grammar.{Packet, Begins, BeginsProperly, NoneAtFront, MisshapenFront}
+use Rattle.grammar.proofs.Grammar.{packet-alone, misshapen-stays}
 use Rattle.division.specs.Run.{slotIn, slotsIn}
 use Rattle.division.specs.Answer.{StepIs}
 use Rattle.division.specs.declared.Ending.the-variants as ending

@@ -5,7 +5,7 @@ use mathlib.Core.Bool.{true}
 use Prim.Native.Nat.{ℕ, suc, _+_, _≤_}
 use lib.ListN.{length}
 use Rattle.netif.specs.Slot.{Slot}
-use Rattle.netif.specs.Grammar.{within, Packet, Begins, BeginsProperly}
+use Rattle.grammar.specs.Grammar.{within, Packet, Begins, BeginsProperly}
 use Rattle.division.specs.Shape.{shaped}
 use Rattle.slow_reader.specs.declared.Asked.{Asked}
 use Rattle.slow_reader.specs.declared.Asked.the-variants as asked

@@ -1,2 +1,3 @@
--- The promise of request 2, of the exported calls.
+-- The promises of the exported calls.
+pub mod LentOn
 pub mod PostThenTake

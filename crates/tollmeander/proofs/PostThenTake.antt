@@ -10,8 +10,8 @@ use lib.ListN.{length}
 use lib.Dec.{eqb}
 use Rattle.ring.specs.Ring.{wadd, reqProd}
 use Rattle.ring.proofs.Counters.{wadd-wadd}
-use Rattle.netif.specs.Report.{goOn}
-use Rattle.netif.specs.declared.Queue.{Queue}
+use Rattle.answer.specs.Report.{goOn}
+use Rattle.answer.specs.declared.Queue.{Queue}
 use Rattle.transmit.specs.Take.{transmitTake}
 use Rattle.frontend.specs.declared.Gso.{Gso}
 use Rattle.frontend.specs.declared.Gso.the-variants.{Absent, Given}
@@ -19,7 +19,8 @@ use Rattle.frontend.specs.Post.{sizeGiven, slotsFor}
 use Rattle.frontend.specs.RoundTrip.{ComesBack, RoundTrip, FewestDone}
 use Rattle.frontend.proofs.RoundTrip.{done-few, done-requests, round-trip}
 use Rattle.frontend.proofs.Fewest.{fewest-done}
-use Rattle.tollmeander.specs.Interface.{queueOf, markAfter, reportWords, gsoOf, TransmitLeaves}
+use Rattle.answer.specs.Words.{queueOf, markAfter, reportWords, Left}
+use Rattle.tollmeander.specs.Interface.{gsoOf, TransmitLeaves}
 use Rattle.tollmeander.specs.PostThenTake.{GivesBack, PostThenTake, PostThenTakeUntouched, NoFewerSlots}
 
 size-small : (given size type : ℕ) → size < 65536 → sizeGiven (gsoOf given size type) < 65536
@@ -32,36 +33,34 @@ size-small given size type h = go (eqb given 0)
 
 -- what a take leaves, by what the definition gives back
 gives-back : (o : Gso) (grants window ring frame buffer : List ℕ) (first : ℕ) → ComesBack o frame buffer first (slotsFor o (length frame)) (transmitTake grants window (goOn first) ring buffer)
-    → (returned consumedAfter markLeft : ℕ) (ringAfter bufferAfter words : List ℕ)
-    → TransmitLeaves grants window first 0 ring buffer returned consumedAfter markLeft ringAfter bufferAfter words
-    → GivesBack o frame buffer first returned consumedAfter markLeft bufferAfter words
-unfolding queueOf markAfter reportWords
-gives-back o grants window ring frame buffer first c returned consumedAfter markLeft ringAfter bufferAfter words t =
+    → (l : Left) → TransmitLeaves grants window first 0 ring buffer l → GivesBack o frame buffer first l
+unfolding markAfter reportWords
+gives-back o grants window ring frame buffer first c l t =
     let r = transmitTake grants window (goOn first) ring buffer .report in
     record {
-      returns = t .told .returns ∙ c .done;
+      returns = t .returns ∙ c .done;
       reports = (
         r .notifies,
-        t .told .reports
+        t .reports
             ∙ (λ i. c .done i ∷ c .noCause i ∷ c .noPlace i ∷ c .slots i ∷ r .notifies ∷ c .total i ∷ c .blank i ∷ c .validated i ∷ c .gsoSizes i ∷ c .gsoTypes i ∷ []),
       );
-      counter = t .told .counter ∙ ap (λ (q : Queue). q .consumed) (c .queue);
-      mark = t .told .marks ∙ ap (λ (q : Queue). markAfter 0 (q .halted)) (c .queue);
-      frameBytes = t .buffer ∙ c .frameBytes;
+      counter = t .counter ∙ ap (λ (q : Queue). q .consumed) (c .queue);
+      unhalted = t .marks ∙ ap (λ (q : Queue). markAfter 0 (q .halted)) (c .queue);
+      frameBytes = t .buffers ∙ c .frameBytes;
     }
 
 pub post-then-take : PostThenTake
 unfolding PostThenTake RoundTrip
-post-then-take grants window ring refs frame ringLeft windowLeft words read given size type d grants′ window′ ring′ buffer more same slots room returned consumedAfter markLeft ringAfter bufferAfter taken t =
+post-then-take grants window ring refs frame ringLeft windowLeft words read given size type d grants′ window′ ring′ buffer more same slots room l t =
     let o = gsoOf given size type in
     gives-back o grants′ window′ ring′ frame buffer (reqProd ring)
     (round-trip grants window ring read o refs frame (d .references) (size-small given size type (d .sized)) (sym (d .left .returns)) grants′ window′ ring′ buffer more
     (rw (d .left .pages) at same) (rw (d .left .page) at slots) room)
-    returned consumedAfter markLeft ringAfter bufferAfter taken t
+    l t
 
 pub post-then-take-untouched : PostThenTakeUntouched
 unfolding PostThenTakeUntouched PostThenTake
-post-then-take-untouched grants window ring refs frame ringLeft windowLeft words read given size type d grants′ window′ ring′ buffer u room returned consumedAfter markLeft ringAfter bufferAfter taken t =
+post-then-take-untouched grants window ring refs frame ringLeft windowLeft words read given size type d grants′ window′ ring′ buffer u room l t =
     let o = gsoOf given size type in
     let done = sym (d .left .returns) in
     let n = slotsFor o (length frame) in
@@ -69,9 +68,9 @@ post-then-take-untouched grants window ring refs frame ringLeft windowLeft words
     let stays : wadd (reqProd ringLeft) 0 ≡ reqProd ringLeft = ap (λ (x : ℕ). wadd x 0) behind ∙ wadd-wadd (reqProd ring) n 0 ∙ ap (wadd (reqProd ring)) (add-zero n) ∙ sym behind in
     post-then-take grants window ring refs frame ringLeft windowLeft words read given size type d grants′ window′ ring′ buffer 0 (u .grantsStay)
     (record { size = u .page; requests = u .requests ∙ sym stays; few = omega (arith, done-few grants ring window read o refs frame done); slots = u .slotsStay })
-    room returned consumedAfter markLeft ringAfter bufferAfter taken t
+    room l t
 
 pub no-fewer-slots : NoFewerSlots
-unfolding NoFewerSlots FewestDone queueOf reportWords
-no-fewer-slots grants window ring buffer consumed mark d e cut consumedAfter markLeft ringAfter bufferAfter words t =
-    rw (t .told .reports) (fewest-done grants window (queueOf consumed mark) ring buffer d e cut (sym (t .told .returns)))
+unfolding NoFewerSlots FewestDone reportWords
+no-fewer-slots grants window ring buffer consumed mark d e cut l t done =
+    rw (t .reports) (fewest-done grants window (queueOf consumed mark) ring buffer d e cut (sym (t .returns) ∙ done))

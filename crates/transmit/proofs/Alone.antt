@@ -5,37 +5,34 @@ use mathlib.Core.Bool.{true}
 use Prim.Native.Nat.{ℕ, suc, _+_, _-_, _≤_}
 use native.Mathlib.Omega.{arith}
 use lib.ListN.{take}
-use Rattle.ring.specs.Ring.{slotAt, slotsFrom}
 use Rattle.grant.specs.Grant.{pagePart}
-use Rattle.grant.specs.Found.{sourceOf}
-use Rattle.netif.specs.Slot.{gref, offset, size}
+use Rattle.netif.specs.Slot.{offset, size, transmitSlot, transmitSlots}
 use Rattle.netif.specs.Decode.{dataOf}
-use Rattle.netif.specs.Divide.{whole, divide, alone}
-use Rattle.netif.proofs.Reading.{alone-whole}
-use Rattle.netif.specs.Front.{outlineOf}
+use Rattle.grammar.specs.Divide.{whole, divide, alone}
+use Rattle.grammar.proofs.Reading.{alone-whole}
+use Rattle.grammar.specs.Stages.{outlineOf}
 use Rattle.netif.specs.declared.DataSlot.{DataSlot}
-use Rattle.netif.specs.declared.Verdict.the-variants.{Good, Bad}
+use Rattle.answer.specs.declared.Verdict.the-variants.{Good, Bad}
 use Rattle.packet.specs.Judge.{totalOf, ownPart, judgeSizes, judgeSlot, judge, partOf, frameOf}
-use Rattle.packet.specs.Plan.{slotPage}
-use Rattle.packet.specs.Stages.{Ready}
-use Rattle.transmit.specs.Code.{packetOne, aloneOutline}
-use Rattle.packet.proofs.Plans.{source-of-slot, slots-bad, slots-later, judge-sizes-bad, judge-slots-bad, judge-gso}
+use Rattle.packet.specs.Stages.{slotPage, Ready}
+use Rattle.transmit.specs.Stages.{packetOne, aloneOutline}
+use Rattle.packet.proofs.Plans.{slots-bad, slots-later, judge-sizes-bad, judge-slots-bad, judge-gso}
 
-module _ (page : List ℕ) (c : ℕ) (d : DataSlot) (is : d ≡ dataOf (slotAt 12 256 page c)) where
+module _ (page : List ℕ) (c : ℕ) (d : DataSlot) (is : d ≡ dataOf (transmitSlot page c)) where
   pub alone-ready : Ready page c (aloneOutline d)
   unfolding outlineOf
   alone-ready = record {
-    outline = λ i. record { head = is i; slots = 1; extras = 0; later = 0; «gso_size» = 0; «gso_type» = 0 };
+    outline = λ i. record { head = is i; slots = 1; extras = 0; «later_bytes» = 0; «gso_size» = 0; «gso_type» = 0 };
     some = omega arith;
     few = omega arith;
     datas = omega arith;
   }
 
-  size-is : d .size ≡ size (slotAt 12 256 page c)
+  size-is : d .size ≡ size (transmitSlot page c)
   unfolding dataOf
   size-is = ap (λ (x : DataSlot). x .size) is
 
-  pub offset-is : d .offset ≡ offset (slotAt 12 256 page c)
+  pub offset-is : d .offset ≡ offset (transmitSlot page c)
   unfolding dataOf
   offset-is = ap (λ (x : DataSlot). x .offset) is
 
@@ -48,9 +45,6 @@ module _ (page : List ℕ) (c : ℕ) (d : DataSlot) (is : d ≡ dataOf (slotAt 1
   own-is = size-is ∙ (omega arith)
 
   module _ (table window : List ℕ) where
-    pub alone-looked : sourceOf table window (d .gref) (d .offset) (d .size) ≡ sourceOf table window (gref (slotAt 12 256 page c)) (offset (slotAt 12 256 page c)) (ownPart 0 (packetOne page c))
-    alone-looked = source-of-slot table window (slotAt 12 256 page c) d (d .size) (ownPart 0 (packetOne page c)) is own-is
-
     pub alone-short : (cause k : ℕ) → judgeSizes (d .size) 0 ≡ Bad cause k → judge table window 0 (packetOne page c) ≡ Bad cause k
     alone-short cause k h = judge-sizes-bad table window 0 (packetOne page c) cause k (ap (λ (x : ℕ). judgeSizes x 0) (sym alone-total) ∙ h)
 
@@ -58,19 +52,19 @@ module _ (page : List ℕ) (c : ℕ) (d : DataSlot) (is : d ≡ dataOf (slotAt 1
       sizes-right : judgeSizes (totalOf (packetOne page c)) 0 ≡ Good
       sizes-right = ap (λ (x : ℕ). judgeSizes x 0) (sym alone-total) ∙ right
 
-      pub alone-bad : (cause k : ℕ) → judgeSlot table window 0 (slotAt 12 256 page c) (ownPart 0 (packetOne page c)) ≡ Bad cause k → judge table window 0 (packetOne page c) ≡ Bad cause k
+      pub alone-bad : (cause k : ℕ) → judgeSlot table window 0 (transmitSlot page c) (ownPart 0 (packetOne page c)) ≡ Bad cause k → judge table window 0 (packetOne page c) ≡ Bad cause k
       alone-bad cause k h = judge-slots-bad table window 0 (packetOne page c) cause k sizes-right (slots-bad table window 0 (packetOne page c) cause k h)
 
-      pub alone-good : judgeSlot table window 0 (slotAt 12 256 page c) (ownPart 0 (packetOne page c)) ≡ Good → judge table window 0 (packetOne page c) ≡ Good
+      pub alone-good : judgeSlot table window 0 (transmitSlot page c) (ownPart 0 (packetOne page c)) ≡ Good → judge table window 0 (packetOne page c) ≡ Good
       alone-good h = judge-gso table window 0 (packetOne page c) sizes-right (slots-later table window 0 (packetOne page c) h)
 
-    pub alone-frame : (q : ℕ) → q ≡ slotPage table (slotAt 12 256 page c) → pagePart window q (d .offset) (d .size) ≡ frameOf table window 0 (packetOne page c)
+    pub alone-frame : (q : ℕ) → q ≡ slotPage table (transmitSlot page c) → pagePart window q (d .offset) (d .size) ≡ frameOf table window 0 (packetOne page c)
     unfolding frameOf partOf slotPage
     alone-frame q h = rw (h, offset-is, own-is) (sym (append-nil _))
 
 -- a first slot that announces nothing, at the front of n slots posted
-pub alone-front : (page : List ℕ) (c n : ℕ) → 1 ≤ n → alone (slotAt 12 256 page c) ≡ true
-    → (divide (slotsFrom 12 256 page c n) ≡ whole 1 0) × (take (1 + 0) (slotsFrom 12 256 page c n) ≡ packetOne page c)
+pub alone-front : (page : List ℕ) (c n : ℕ) → 1 ≤ n → alone (transmitSlot page c) ≡ true
+    → (divide (transmitSlots page c n) ≡ whole 1 0) × (take (1 + 0) (transmitSlots page c n) ≡ packetOne page c)
 alone-front page c n h k =
     let z : n ≡ suc (n - 1) = omega arith in
-    (ap (λ (x : ℕ). divide (slotsFrom 12 256 page c x)) z ∙ alone-whole (slotAt 12 256 page c) (slotsFrom 12 256 page (suc c) (n - 1)) k, ap (λ (x : ℕ). take 1 (slotsFrom 12 256 page c x)) z)
+    (ap (λ (x : ℕ). divide (transmitSlots page c x)) z ∙ alone-whole (transmitSlot page c) (transmitSlots page (suc c) (n - 1)) k, ap (λ (x : ℕ). take 1 (transmitSlots page c x)) z)

@@ -1,24 +1,25 @@
 -- What a transmit call's definition comes to in each of its cases, and what it leaves of the ring page.
-use mathlib.Core.Path.{_≡_, ap, _∙_}
-use mathlib.Core.List.{List, [], _∷_, _++_, map}
-use mathlib.Core.Bool.{true, false}
+use mathlib.Core.Path.{_≡_, refl, ap, _∙_}
+use mathlib.Core.List.{List, map}
+use mathlib.Core.Bool.{Bool, true, false}
 use Prim.Native.Nat.{ℕ, suc, _+_, _≤_, _<_}
 use native.Mathlib.Omega.{arith}
 use lib.ListN.{length, take, getD, length-append, length-take, length-drop, length-map}
 use lib.Dec.{eqb}
 use borrow.Author.Tests.{eq-eqb, ne-eqb, lt-ltb, le-ltb}
 use Rattle.words.specs.Word.{u16Bytes, u32Bytes}
-use Rattle.ring.specs.Ring.{wadd, reqProd, posted, asking, withReqEvent, slotAt, slotsFrom}
+use Rattle.ring.specs.Ring.{withProducer, wadd, reqProd, posted, asking, withReqEvent}
 use Rattle.ring.specs.declared.Side.the-variants.{Replies}
 use Rattle.ring.proofs.Facts.{producer-leaves-size, producer-leaves-slot, replies-leave-requests}
-use Rattle.netif.specs.Slot.{Slot, slotWidth, slotCount, transmitReply}
-use Rattle.netif.specs.Divide.{whole, beginning, misshapen, divide, onCut}
-use Rattle.netif.specs.declared.Queue.{Queue}
+use Rattle.netif.specs.Slot.{Slot, transmitReply, transmitSlot, transmitSlots}
+use Rattle.grammar.specs.Divide.{whole, beginning, misshapen, divide, onCut}
+use Rattle.answer.specs.declared.Queue.{Queue}
 use Rattle.packet.specs.Judge.{judge, dataReply, extraReply, repliesOf}
-use Rattle.netif.specs.Packet.{firstOf, extrasOf, laterOf}
-use Rattle.transmit.specs.Take.{refusal, takePacket, waitingSlots, repliesTo, repliedPage, Look, stop, ready, lookFront, look, takeOf, transmitTake, takeFront}
+use Rattle.grammar.specs.Packet.{firstOf, extrasOf, laterOf}
+use Rattle.answer.specs.Effect.{refusal}
+use Rattle.transmit.specs.Take.{takePacket, waitingSlots, repliesTo, Look, stop, ready, lookFront, look, takeOf, transmitTake, takeFront}
 use Rattle.words.proofs.Word.{splice-length, splice-before, u32-same}
-use Rattle.ring.proofs.Ring.{Short, slots-length, replies-length, replies-header, replies-slot, header-slot}
+use Rattle.ring.proofs.Ring.{Short, short-map, short-append, slots-length, replies-length, replies-header, replies-slot, header-slot}
 
 -- ---- the page
 
@@ -31,19 +32,11 @@ module _ (page : List ℕ) (size : length page ≡ 4096) where
   unfolding asking withReqEvent u32Bytes
   asking-requests = u32-same (asking page) page 0 (λ j a b. splice-before page 4 _ (omega arith) j (omega arith))
 
-  pub asking-slot : (j : ℕ) → slotAt slotWidth slotCount (asking page) j ≡ slotAt slotWidth slotCount page j
+  pub asking-slot : (j : ℕ) → transmitSlot (asking page) j ≡ transmitSlot page j
   unfolding asking withReqEvent u32Bytes
   asking-slot j = header-slot 12 256 (omega arith) page 4 _ (omega arith) (omega arith) j
 
 -- ---- replies
-
-pub short-map : (f : Slot → List ℕ) → ((s : Slot) → length (f s) ≤ 12) → (l : List Slot) → Short 12 (map f l)
-short-map f h [] = tt
-short-map f h (s ∷ l) = (h s, short-map f h l)
-
-short-append : (a b : List (List ℕ)) → Short 12 a → Short 12 b → Short 12 (a ++ b)
-short-append [] b h k = k
-short-append (r ∷ a) b h k = (h .0, short-append a b (h .1) k)
 
 pub data-short : (status : ℕ) (s : Slot) → length (dataReply status s) ≤ 12
 unfolding dataReply transmitReply u16Bytes
@@ -57,9 +50,9 @@ pub replies-short : (e : ℕ) (p : List Slot) (status : ℕ) → Short 12 (repli
 unfolding repliesOf
 replies-short e p status = (
   data-short status (firstOf p),
-  short-append (map extraReply (extrasOf e p)) (map (dataReply status) (laterOf e p))
-      (short-map extraReply extra-short (extrasOf e p))
-      (short-map (dataReply status) (data-short status) (laterOf e p)),
+  short-append 12 (map extraReply (extrasOf e p)) (map (dataReply status) (laterOf e p))
+      (short-map 12 extraReply extra-short (extrasOf e p))
+      (short-map 12 (dataReply status) (data-short status) (laterOf e p)),
 )
 
 pub replies-count : (e : ℕ) (p : List Slot) (status : ℕ) → suc e ≤ length p → length (repliesOf e p status) ≡ length p
@@ -69,7 +62,7 @@ replies-count e p status h =
 
 module _ (page : List ℕ) (size : length page ≡ 4096) (c slots e status : ℕ) where
   abbrev all : List (List ℕ)
-  all = repliesOf e (slotsFrom slotWidth slotCount page c slots) status
+  all = repliesOf e (transmitSlots page c slots) status
 
   pub to-length : length (repliesTo page c slots e status) ≡ 4096
   unfolding repliesTo
@@ -80,12 +73,16 @@ module _ (page : List ℕ) (size : length page ≡ 4096) (c slots e status : ℕ
   to-header j h = replies-header 12 256 (omega arith) all page c (omega arith) (replies-short e _ status) j h
 
   -- the slots behind stay
-  pub to-slot : e < slots → (j : ℕ) → c + slots ≤ j → j < c + 256 → slotAt slotWidth slotCount (repliesTo page c slots e status) j ≡ slotAt slotWidth slotCount page j
+  pub to-slot : e < slots → (j : ℕ) → c + slots ≤ j → j < c + 256 → transmitSlot (repliesTo page c slots e status) j ≡ transmitSlot page j
   unfolding repliesTo
   to-slot h j a b =
-      let n : length (slotsFrom slotWidth slotCount page c slots) ≡ slots = slots-length 12 256 page slots c in
+      let n : length (transmitSlots page c slots) ≡ slots = slots-length 12 256 page slots c in
       replies-slot 12 256 (omega arith) all page c (omega arith) (replies-short e _ status) j
-      (omega (arith, replies-count e (slotsFrom slotWidth slotCount page c slots) status (omega arith))) b
+      (omega (arith, replies-count e (transmitSlots page c slots) status (omega arith))) b
+
+-- and with rsp_prod behind them
+abbrev pub repliedPage : List ℕ → (c slots e status : ℕ) → List ℕ
+repliedPage page c slots e status = withProducer Replies (repliesTo page c slots e status) (wadd c slots)
 
 module _ (page : List ℕ) (size : length page ≡ 4096) (c slots e status : ℕ) where
   abbrev answered : List ℕ
@@ -95,21 +92,18 @@ module _ (page : List ℕ) (size : length page ≡ 4096) (c slots e status : ℕ
   header = omega (arith, to-length page size c slots e status)
 
   pub replied-length : length (repliedPage page c slots e status) ≡ 4096
-  unfolding repliedPage
   replied-length = producer-leaves-size answered header Replies (wadd c slots) ∙ to-length page size c slots e status
 
   pub replied-requests : reqProd (repliedPage page c slots e status) ≡ reqProd page
-  unfolding repliedPage
   replied-requests =
       replies-leave-requests answered header (wadd c slots)
       ∙ u32-same answered page 0 (λ j a b. to-header page size c slots e status j (omega arith))
 
   -- rsp_prod leaves the slots
-  pub replied-slots : (j : ℕ) → slotAt slotWidth slotCount (repliedPage page c slots e status) j ≡ slotAt slotWidth slotCount answered j
-  unfolding repliedPage
+  pub replied-slots : (j : ℕ) → transmitSlot (repliedPage page c slots e status) j ≡ transmitSlot answered j
   replied-slots j = producer-leaves-slot answered header Replies (wadd c slots) 12 256 (omega arith) (omega (arith, to-length page size c slots e status)) j
 
-  pub replied-slot : e < slots → (j : ℕ) → c + slots ≤ j → j < c + 256 → slotAt slotWidth slotCount (repliedPage page c slots e status) j ≡ slotAt slotWidth slotCount page j
+  pub replied-slot : e < slots → (j : ℕ) → c + slots ≤ j → j < c + 256 → transmitSlot (repliedPage page c slots e status) j ≡ transmitSlot page j
   replied-slot h j a b = replied-slots j ∙ to-slot page size c slots e status h j a b
 
 module _ (table window : List ℕ) (q : Queue) (page : List ℕ) where
@@ -150,7 +144,7 @@ module _ (table window : List ℕ) (q : Queue) (page : List ℕ) where
     unfolding look
     look-some h l w k some few = rw (eq-eqb (length page) 4096 size, h, le-ltb 256 (posted page (q .consumed)) (omega arith), ne-eqb (posted page (q .consumed)) 0 (omega arith), w)
 
-pub waiting-slots : (page : List ℕ) (c n : ℕ) → n ≡ posted page c → waitingSlots page c ≡ slotsFrom slotWidth slotCount page c n
+pub waiting-slots : (page : List ℕ) (c n : ℕ) → n ≡ posted page c → waitingSlots page c ≡ transmitSlots page c n
 unfolding waitingSlots
 waiting-slots page c n h = rw h
 
@@ -167,3 +161,12 @@ module _ (table window : List ℕ) (q : Queue) (page frame : List ℕ) (l : List
   pub front-packet : (d e : ℕ) → divide l ≡ whole d e → takeFront table window q page frame ≡ takePacket table window q page frame e (take (d + e) l) (judge table window e (take (d + e) l))
   unfolding takeFront
   front-packet d e h = rw (slots, h)
+
+-- a halted queue stays as it is
+pub halted-stays : (table window : List ℕ) (q : Queue) (page frame : List ℕ) → q .halted ≡ true → transmitTake table window q page frame .queue .halted ≡ true
+unfolding transmitTake look
+halted-stays table window q page frame h = go (eqb (length page) 4096) refl
+  where
+    go : (b : Bool) → eqb (length page) 4096 ≡ b → transmitTake table window q page frame .queue .halted ≡ true
+    go true e = rw (e, h)
+    go false e = rw (e, h)

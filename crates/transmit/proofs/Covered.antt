@@ -8,12 +8,12 @@ use Prim.Native.Nat.{ℕ, _+_}
 use lib.ListN.{length, take}
 use lib.Dec.{ltb, eqb}
 use Rattle.ring.specs.Ring.{pageSize, posted}
-use Rattle.grant.specs.Found.{CoveredAlike}
+use Rattle.grant.specs.Lookup.{CoveredAlike}
 use Rattle.netif.specs.Slot.{Slot, slotCount}
-use Rattle.netif.specs.Divide.{Cut, whole, beginning, misshapen, divide, onCut}
-use Rattle.netif.specs.declared.Queue.{Queue}
-use Rattle.netif.specs.declared.Verdict.{Verdict}
-use Rattle.netif.specs.declared.Verdict.the-variants.{Good, Bad}
+use Rattle.grammar.specs.Divide.{Cut, whole, beginning, misshapen, divide, onCut}
+use Rattle.answer.specs.declared.Queue.{Queue}
+use Rattle.answer.specs.declared.Verdict.{Verdict}
+use Rattle.answer.specs.declared.Verdict.the-variants.{Good, Bad}
 use Rattle.packet.specs.Judge.{judge}
 use Rattle.packet.proofs.Covered.{judge-alike, frame-alike}
 use Rattle.transmit.specs.Take.{Look, stop, ready, waitingSlots, handedOver, takePacket, takeOf, look, transmitTake}

@@ -15,21 +15,21 @@ use lib.Seq.{take-at, drop-at, take-all, getD-drop, getD-append-add}
 use Rattle.words.proofs.Word.{lt-or-ge}
 use Rattle.words.proofs.Lists.{map-at}
 use Rattle.words.specs.Word.{splice}
-use Rattle.ring.specs.Ring.{wrap, wadd, slotPlace, slotAt, slotsFrom, withSlots}
-use Rattle.ring.proofs.Ring.{slots-length, slots-at, slots-same, slots-split, slots-snoc, replies-length, replies-slot, replies-here, replies-append}
-use Rattle.ring.proofs.Replied.{reply-next}
-use Rattle.netif.specs.Slot.{Slot}
-use Rattle.netif.specs.Packet.{extrasOf, laterOf}
+use Rattle.ring.specs.Ring.{wrap, wadd, slotPlace, withSlots}
+use Rattle.ring.proofs.Ring.{slots-length, slots-at, slots-same, slots-split, slots-snoc, short-map, replies-length, replies-slot, replies-append}
+use Rattle.ring.proofs.Replied.{reply-next, reply-stands}
+use Rattle.netif.specs.Slot.{Slot, transmitSlot, transmitSlots}
+use Rattle.grammar.specs.Packet.{extrasOf, laterOf}
 use Rattle.packet.specs.Judge.{dataReply, extraReply, repliesOf}
-use Rattle.transmit.specs.Take.{repliesTo, repliedPage}
-use Rattle.transmit.specs.Code.{repliedBy}
-use Rattle.transmit.proofs.Cases.{short-map, data-short, extra-short, replies-short, replies-count, replied-slots}
+use Rattle.transmit.specs.Take.{repliesTo}
+use Rattle.transmit.specs.Stages.{repliedBy}
+use Rattle.transmit.proofs.Cases.{repliedPage, data-short, extra-short, replies-short, replies-count}
 
 -- ---- a run of replies, each made by f of its slot
 
 module _ (f : Slot → List ℕ) (short : (s : Slot) → length (f s) ≤ 12) (page : List ℕ) (size : length page ≡ 4096) (n : ℕ) where
-  run-length : (k : ℕ) → length (map f (slotsFrom 12 256 page n k)) ≡ k
-  run-length k = length-map (slotsFrom 12 256 page n k) f ∙ slots-length 12 256 page k n
+  run-length : (k : ℕ) → length (map f (transmitSlots page n k)) ≡ k
+  run-length k = length-map (transmitSlots page n k) f ∙ slots-length 12 256 page k n
 
   pub by-none : page ≡ repliedBy f page n 0
   unfolding repliedBy
@@ -37,31 +37,31 @@ module _ (f : Slot → List ℕ) (short : (s : Slot) → length (f s) ≤ 12) (p
 
   pub by-length : (k : ℕ) → length (repliedBy f page n k) ≡ 4096
   unfolding repliedBy
-  by-length k = replies-length 12 256 (omega arith) (map f (slotsFrom 12 256 page n k)) page n (omega arith) (short-map f short (slotsFrom 12 256 page n k)) ∙ size
+  by-length k = replies-length 12 256 (omega arith) (map f (transmitSlots page n k)) page n (omega arith) (short-map 12 f short (transmitSlots page n k)) ∙ size
 
   -- the slots behind stay
-  pub by-slot : (k j : ℕ) → n + k ≤ j → j < n + 256 → slotAt 12 256 (repliedBy f page n k) j ≡ slotAt 12 256 page j
+  pub by-slot : (k j : ℕ) → n + k ≤ j → j < n + 256 → transmitSlot (repliedBy f page n k) j ≡ transmitSlot page j
   unfolding repliedBy
   by-slot k j a b =
-      replies-slot 12 256 (omega arith) (map f (slotsFrom 12 256 page n k)) page n (omega arith) (short-map f short (slotsFrom 12 256 page n k)) j (omega (arith, run-length k)) b
+      replies-slot 12 256 (omega arith) (map f (transmitSlots page n k)) page n (omega arith) (short-map 12 f short (transmitSlots page n k)) j (omega (arith, run-length k)) b
 
-  by-parts : (k : ℕ) → take k (map f (slotsFrom 12 256 page n (k + 1))) ≡ map f (slotsFrom 12 256 page n k)
+  by-parts : (k : ℕ) → take k (map f (transmitSlots page n (k + 1))) ≡ map f (transmitSlots page n k)
   by-parts k =
-      ap (λ (l : List Slot). take k (map f l)) (slots-snoc 12 256 page k n) ∙ ap (take k) (map-append f (slotsFrom 12 256 page n k) (slotAt 12 256 page (n + k) ∷ []))
-      ∙ take-at (map f (slotsFrom 12 256 page n k)) (f (slotAt 12 256 page (n + k)) ∷ []) k (run-length k)
+      ap (λ (l : List Slot). take k (map f l)) (slots-snoc 12 256 page k n) ∙ ap (take k) (map-append f (transmitSlots page n k) (transmitSlot page (n + k) ∷ []))
+      ∙ take-at (map f (transmitSlots page n k)) (f (transmitSlot page (n + k)) ∷ []) k (run-length k)
 
 -- one more reply, at a counter that wraps
 module _ (f : Slot → List ℕ) (short : (s : Slot) → length (f s) ≤ 12) (page : List ℕ) (size : length page ≡ 4096) (first from i m : ℕ) (here : m ≡ wadd first (from + i)) where
-  pub by-more : i < 256 → (now : List ℕ) → now ≡ repliedBy f page (first + from) i → splice now (slotPlace 12 256 m) (f (slotAt 12 256 now m)) ≡ repliedBy f page (first + from) (i + 1)
+  pub by-more : i < 256 → (now : List ℕ) → now ≡ repliedBy f page (first + from) i → splice now (slotPlace 12 256 m) (f (transmitSlot now m)) ≡ repliedBy f page (first + from) (i + 1)
   unfolding repliedBy wadd
   by-more k now inv =
-      let rs : List (List ℕ) = map f (slotsFrom 12 256 page (first + from) (i + 1)) in
-      let many : length (map f (slotsFrom 12 256 page (first + from) (i + 1))) ≡ i + 1 = run-length f short page size (first + from) (i + 1) in
-      let slots : length (slotsFrom 12 256 page (first + from) (i + 1)) ≡ i + 1 = slots-length 12 256 page (i + 1) (first + from) in
+      let rs : List (List ℕ) = map f (transmitSlots page (first + from) (i + 1)) in
+      let many : length (map f (transmitSlots page (first + from) (i + 1))) ≡ i + 1 = run-length f short page size (first + from) (i + 1) in
+      let slots : length (transmitSlots page (first + from) (i + 1)) ≡ i + 1 = slots-length 12 256 page (i + 1) (first + from) in
       let counter : m ≡ wadd (first + from) i = here ∙ ap (λ (x : ℕ). x % wrap) (sym (add-assoc first from i)) in
-      reply-next 12 256 (omega arith) refl page (omega arith) (first + from) rs (short-map f short (slotsFrom 12 256 page (first + from) (i + 1))) (omega arith)
-      f m i now (splice now (slotPlace 12 256 m) (f (slotAt 12 256 now m))) (omega arith) counter
-      (map-at f (slotsFrom 12 256 page (first + from) (i + 1)) i [] [] (omega arith) ∙ ap f (slots-at 12 256 page (i + 1) (first + from) i (omega arith)))
+      reply-next 12 256 (omega arith) refl page (omega arith) (first + from) rs (short-map 12 f short (transmitSlots page (first + from) (i + 1))) (omega arith)
+      f m i now (splice now (slotPlace 12 256 m) (f (transmitSlot now m))) (omega arith) counter
+      (map-at f (transmitSlots page (first + from) (i + 1)) i [] [] (omega arith) ∙ ap f (slots-at 12 256 page (i + 1) (first + from) i (omega arith)))
       (inv ∙ ap (withSlots 12 256 page (first + from)) (sym (by-parts f short page size (first + from) i)))
       refl
       ∙ ap (withSlots 12 256 page (first + from)) (take-all (i + 1) rs (omega arith))
@@ -70,46 +70,46 @@ module _ (f : Slot → List ℕ) (short : (s : Slot) → length (f s) ≤ 12) (p
 
 module _ (page : List ℕ) (size : length page ≡ 4096) (c e k status : ℕ) (few : e + k < 256) where
   r : List ℕ
-  r = dataReply status (slotAt 12 256 page c)
+  r = dataReply status (transmitSlot page c)
 
   page1 : List ℕ
-  page1 = splice page (slotPlace 12 256 c) (dataReply status (slotAt 12 256 page c))
+  page1 = splice page (slotPlace 12 256 c) (dataReply status (transmitSlot page c))
 
   page1-length : length page1 ≡ 4096
   unfolding page1
-  page1-length = replies-length 12 256 (omega arith) (dataReply status (slotAt 12 256 page c) ∷ []) page c (omega arith) (data-short status (slotAt 12 256 page c), tt) ∙ size
+  page1-length = replies-length 12 256 (omega arith) (dataReply status (transmitSlot page c) ∷ []) page c (omega arith) (data-short status (transmitSlot page c), tt) ∙ size
 
-  page1-slot : (j : ℕ) → c + 1 ≤ j → j < c + 256 → slotAt 12 256 page1 j ≡ slotAt 12 256 page j
+  page1-slot : (j : ℕ) → c + 1 ≤ j → j < c + 256 → transmitSlot page1 j ≡ transmitSlot page j
   unfolding page1
-  page1-slot j a b = replies-slot 12 256 (omega arith) (dataReply status (slotAt 12 256 page c) ∷ []) page c (omega arith) (data-short status (slotAt 12 256 page c), tt) j a b
+  page1-slot j a b = replies-slot 12 256 (omega arith) (dataReply status (transmitSlot page c) ∷ []) page c (omega arith) (data-short status (transmitSlot page c), tt) j a b
 
-  page1-extras : slotsFrom 12 256 page1 (c + 1) e ≡ slotsFrom 12 256 page (suc c) e
-  page1-extras = slots-same 12 256 page1 page e (c + 1) (λ j a b. page1-slot j a (omega arith)) ∙ ap (λ (x : ℕ). slotsFrom 12 256 page x e) (add-one c)
+  page1-extras : transmitSlots page1 (c + 1) e ≡ transmitSlots page (suc c) e
+  page1-extras = slots-same 12 256 page1 page e (c + 1) (λ j a b. page1-slot j a (omega arith)) ∙ ap (λ (x : ℕ). transmitSlots page x e) (add-one c)
 
-  page2-later : slotsFrom 12 256 (repliedBy extraReply page1 (c + 1) e) (c + (1 + e)) k ≡ slotsFrom 12 256 page (suc c + e) k
+  page2-later : transmitSlots (repliedBy extraReply page1 (c + 1) e) (c + (1 + e)) k ≡ transmitSlots page (suc c + e) k
   page2-later =
       slots-same 12 256 (repliedBy extraReply page1 (c + 1) e) page k (c + (1 + e))
       (λ j a b. by-slot extraReply extra-short page1 page1-length (c + 1) e j (omega arith) (omega arith) ∙ page1-slot j (omega arith) (omega arith))
-      ∙ ap (λ (x : ℕ). slotsFrom 12 256 page x k) (omega arith)
+      ∙ ap (λ (x : ℕ). transmitSlots page x k) (omega arith)
 
   -- the definition's replies, by the slots of the page
-  all-replies : repliesOf e (slotsFrom 12 256 page c (suc (e + k))) status
-      ≡ dataReply status (slotAt 12 256 page c) ∷ (map extraReply (slotsFrom 12 256 page (suc c) e) ++ map (dataReply status) (slotsFrom 12 256 page (suc c + e) k))
+  all-replies : repliesOf e (transmitSlots page c (suc (e + k))) status
+      ≡ dataReply status (transmitSlot page c) ∷ (map extraReply (transmitSlots page (suc c) e) ++ map (dataReply status) (transmitSlots page (suc c + e) k))
   unfolding repliesOf
   all-replies =
-      let s : slotsFrom 12 256 page (suc c) (e + k) ≡ slotsFrom 12 256 page (suc c) e ++ slotsFrom 12 256 page (suc c + e) k = slots-split 12 256 page e k (suc c) in
-      let x : take e (slotsFrom 12 256 page (suc c) (e + k)) ≡ slotsFrom 12 256 page (suc c) e
-      = ap (take e) s ∙ take-at (slotsFrom 12 256 page (suc c) e) (slotsFrom 12 256 page (suc c + e) k) e (slots-length 12 256 page e (suc c)) in
-      let y : drop e (slotsFrom 12 256 page (suc c) (e + k)) ≡ slotsFrom 12 256 page (suc c + e) k
-      = ap (drop e) s ∙ drop-at (slotsFrom 12 256 page (suc c) e) (slotsFrom 12 256 page (suc c + e) k) e (slots-length 12 256 page e (suc c)) in
+      let s : transmitSlots page (suc c) (e + k) ≡ transmitSlots page (suc c) e ++ transmitSlots page (suc c + e) k = slots-split 12 256 page e k (suc c) in
+      let x : take e (transmitSlots page (suc c) (e + k)) ≡ transmitSlots page (suc c) e
+      = ap (take e) s ∙ take-at (transmitSlots page (suc c) e) (transmitSlots page (suc c + e) k) e (slots-length 12 256 page e (suc c)) in
+      let y : drop e (transmitSlots page (suc c) (e + k)) ≡ transmitSlots page (suc c + e) k
+      = ap (drop e) s ∙ drop-at (transmitSlots page (suc c) e) (transmitSlots page (suc c + e) k) e (slots-length 12 256 page e (suc c)) in
       rw (x, y)
 
-  pub replied-all : repliedBy (dataReply status) (repliedBy extraReply (splice page (slotPlace 12 256 c) (dataReply status (slotAt 12 256 page c))) (c + 1) e) (c + (1 + e)) k ≡ repliesTo page c (suc (e + k)) e status
+  pub replied-all : repliedBy (dataReply status) (repliedBy extraReply (splice page (slotPlace 12 256 c) (dataReply status (transmitSlot page c))) (c + 1) e) (c + (1 + e)) k ≡ repliesTo page c (suc (e + k)) e status
   unfolding repliesTo repliedBy page1
   replied-all =
-      let ex : List (List ℕ) = map extraReply (slotsFrom 12 256 page (suc c) e) in
-      let la : List (List ℕ) = map (dataReply status) (slotsFrom 12 256 page (suc c + e) k) in
-      let m : length (map extraReply (slotsFrom 12 256 page (suc c) e)) ≡ e = length-map (slotsFrom 12 256 page (suc c) e) extraReply ∙ slots-length 12 256 page e (suc c) in
+      let ex : List (List ℕ) = map extraReply (transmitSlots page (suc c) e) in
+      let la : List (List ℕ) = map (dataReply status) (transmitSlots page (suc c + e) k) in
+      let m : length (map extraReply (transmitSlots page (suc c) e)) ≡ e = length-map (transmitSlots page (suc c) e) extraReply ∙ slots-length 12 256 page e (suc c) in
       let two : repliedBy extraReply page1 (c + 1) e ≡ withSlots 12 256 page1 (suc c) ex = ap (λ (l : List Slot). withSlots 12 256 page1 (c + 1) (map extraReply l)) page1-extras ∙ ap (λ (x : ℕ). withSlots 12 256 page1 x ex) (add-one c) in
       ap (λ (l : List Slot). withSlots 12 256 (repliedBy extraReply page1 (c + 1) e) (c + (1 + e)) (map (dataReply status) l)) page2-later
       ∙ ap (λ (p : List ℕ). withSlots 12 256 p (c + (1 + e)) la) two
@@ -158,12 +158,11 @@ replies-at e p status (suc j) h k = ⊎-elim extra later (lt-or-ge j e)
 
 -- each slot replied to has its id, or 0, and the status, or null, in its first four bytes, and its others stay
 pub replied-at : (page : List ℕ) → length page ≡ 4096 → (c slots e status : ℕ) → e < slots → slots ≤ 256 → (i : ℕ) → i < slots
-    → slotAt 12 256 (repliedPage page c slots e status) (c + i) ≡ splice (slotAt 12 256 page (c + i)) 0 (replyAt e i status (slotAt 12 256 page (c + i)))
-unfolding repliedPage repliesTo
+    → transmitSlot (repliedPage page c slots e status) (c + i) ≡ splice (transmitSlot page (c + i)) 0 (replyAt e i status (transmitSlot page (c + i)))
+unfolding repliesTo
 replied-at page size c slots e status some few i h =
-    let n : length (slotsFrom 12 256 page c slots) ≡ slots = slots-length 12 256 page slots c in
-    let m : length (repliesOf e (slotsFrom 12 256 page c slots) status) ≡ slots = replies-count e (slotsFrom 12 256 page c slots) status (omega arith) ∙ n in
-    replied-slots page size c slots e status (c + i)
-    ∙ replies-here 12 256 (omega arith) (repliesOf e (slotsFrom 12 256 page c slots) status) page c (omega arith) (replies-short e (slotsFrom 12 256 page c slots) status) (omega arith) i (omega arith)
-    ∙ ap (splice (slotAt 12 256 page (c + i)) 0)
-    (replies-at e (slotsFrom 12 256 page c slots) status i (omega arith) (omega arith) ∙ ap (replyAt e i status) (slots-at 12 256 page slots c i h))
+    let n : length (transmitSlots page c slots) ≡ slots = slots-length 12 256 page slots c in
+    let m : length (repliesOf e (transmitSlots page c slots) status) ≡ slots = replies-count e (transmitSlots page c slots) status (omega arith) ∙ n in
+    reply-stands 12 256 (omega arith) page (omega arith) c (repliesOf e (transmitSlots page c slots) status) (replies-short e (transmitSlots page c slots) status) (omega arith)
+    (wadd c slots) i (omega arith) _
+    (replies-at e (transmitSlots page c slots) status i (omega arith) (omega arith) ∙ ap (replyAt e i status) (slots-at 12 256 page slots c i h))

@@ -1,50 +1,38 @@
 -- A whole packet at the counter, from what the divider read of it to what the call leaves: it stands on the page with its outline, a good
--- one's plan lies in the window and is its frame, and replies leave rsp_event, by which notify goes.
+-- one's plan lies in the window and is its frame.
 use mathlib.Core.Path.{_≡_, refl, sym, ap, _∙_}
 use mathlib.Core.List.{List, [], _∷_, _++_, map}
-use mathlib.Core.Bool.{Bool, false}
+use mathlib.Core.Bool.{Bool}
 use Prim.Native.Nat.{ℕ, zero, suc, _+_, _-_, _*_, _≤_, _<_}
 use native.Mathlib.Omega.{arith}
-use lib.ListN.{length, take, drop, getD, set, length-take, length-append, length-map}
-use lib.Seq.{getD-take, take-at}
+use lib.ListN.{length, take, getD, length-take, length-append, length-map}
+use lib.Seq.{getD-take}
 use borrow.Author.Tests.{lt-ltb, le-ltb}
 use Rattle.words.specs.Word.{splice, bit}
 use Rattle.words.proofs.Lists.{map-at}
-use Rattle.ring.specs.Ring.{wadd, notify, slotsFrom}
-use Rattle.ring.specs.declared.Side.the-variants.{Replies}
+use Rattle.words.proofs.Word.{no-confusion}
 use Rattle.ring.proofs.Ring.{slots-length, slots-take}
-use Rattle.ring.proofs.Replied.{notify-replied}
 use Rattle.grant.proofs.Grant.{fit-page, range-page}
-use Rattle.netif.specs.Slot.{Slot, gref, offset, size, okay, error}
-use Rattle.netif.specs.Packet.{firstOf, laterOf, sizes}
-use Rattle.netif.specs.Divide.{Cut, whole, beginning, misshapen, divide, onCut}
-use Rattle.netif.specs.Front.{outlineOf, frontOf}
-use Rattle.netif.specs.declared.divider.Outline.{Outline}
-use Rattle.netif.specs.declared.divider.Front.{Front}
-use Rattle.netif.specs.declared.divider.Front.the-variants as front
-use Rattle.netif.specs.Report.{flag, goOn, plain, spoiledReport, reportOf}
-use Rattle.netif.specs.declared.Queue.{Queue}
-use Rattle.netif.specs.declared.Answer.{Answer}
-use Rattle.netif.specs.declared.Answer.the-variants.{Done, Spoiled}
-use Rattle.netif.specs.declared.Verdict.the-variants.{Good, Bad}
-use Rattle.netif.proofs.Within.{within-datas}
-use Rattle.netif.proofs.Grammar.{packet-length, divide-whole}
-use Rattle.packet.specs.Judge.{totalOf, ownPart, parts, judgeSlot, judgeLater, judge, partOf, laterParts, frameOf, repliesOf}
-use Rattle.transmit.specs.Take.{repliesTo, repliedPage, refusal, spoiled, doneReport, handedOver, takePacket}
-use Rattle.packet.specs.Plan.{joined, InWindow, datasOf, slotPage}
-use Rattle.packet.specs.Stages.{packetAt, Ready, HoldsParts}
-use Rattle.transmit.specs.Code.{ConsumedAs, Gives}
-use Rattle.transmit.specs.declared.Consumed.{Consumed}
+use Rattle.netif.specs.Slot.{Slot, gref, offset, size, okay, error, transmitSlots}
+use Rattle.grammar.specs.Packet.{firstOf, laterOf, sizes}
+use Rattle.grammar.specs.Divide.{Cut, whole, beginning, misshapen, divide, onCut}
+use Rattle.grammar.specs.Stages.{outlineOf, frontOf}
+use Rattle.grammar.specs.declared.Outline.{Outline}
+use Rattle.grammar.specs.declared.Front.{Front}
+use Rattle.grammar.specs.declared.Front.the-variants as front
+use Rattle.answer.specs.Report.{spoiledReport, doneReport}
+use Rattle.answer.specs.Effect.{refusal, consume, Gives}
+use Rattle.answer.specs.declared.Summary.{Summary}
+use Rattle.answer.specs.declared.Outcome.{Outcome}
+use Rattle.answer.specs.declared.Queue.{Queue}
+use Rattle.answer.specs.declared.Verdict.the-variants.{Good, Bad}
+use Rattle.grammar.proofs.Within.{within-datas}
+use Rattle.grammar.proofs.Grammar.{packet-length, divide-whole}
+use Rattle.packet.specs.Judge.{totalOf, ownPart, parts, judgeSlot, judgeLater, judge, partOf, laterParts, frameOf}
+use Rattle.transmit.specs.Take.{summaryOf, repliesTo, spoiled, handedOver, takePacket}
+use Rattle.packet.specs.Stages.{joined, InWindow, datasOf, slotPage, packetAt, Ready, HoldsParts}
 use Rattle.packet.proofs.Judge.{orElse-good, slot-granted, good-parts}
-use Rattle.transmit.proofs.Cases.{replies-short}
-use Rattle.packet.proofs.Plans.{total-of, sum-of, blank-of, validated-of, gso-size-of, gso-type-of}
-
--- ---- notify
-
-pub notify-stays : (page : List ℕ) → length page ≡ 4096 → (c slots e status old new : ℕ) → notify Replies (repliesTo page c slots e status) old new ≡ notify Replies page old new
-unfolding repliesTo
-notify-stays page size c slots e status old new =
-    notify-replied 12 256 (omega arith) page (omega arith) c (repliesOf e (slotsFrom 12 256 page c slots) status) (replies-short e (slotsFrom 12 256 page c slots) status) Replies old new
+use Rattle.packet.proofs.Plans.{total-of, blank-of, validated-of, gso-size-of, gso-type-of}
 
 -- ---- what stands at the front
 
@@ -54,21 +42,21 @@ front-by l x = onCut x (λ d e. front.Whole (outlineOf e (take (d + e) l))) fron
 
 by-beginning : (l : List Slot) (x : Cut) → front.Beginning ≡ front-by l x → x ≡ beginning
 unfolding front-by
-by-beginning l (whole d e) h = absurd (let z : _≡_ {A = ℕ} 0 1 = cc in omega arith)
+by-beginning l (whole d e) h = no-confusion cc
 by-beginning l beginning h = refl
-by-beginning l misshapen h = absurd (let z : _≡_ {A = ℕ} 0 1 = cc in omega arith)
+by-beginning l misshapen h = no-confusion cc
 
 by-misshapen : (l : List Slot) (x : Cut) → front.Misshapen ≡ front-by l x → x ≡ misshapen
 unfolding front-by
-by-misshapen l (whole d e) h = absurd (let z : _≡_ {A = ℕ} 0 1 = cc in omega arith)
-by-misshapen l beginning h = absurd (let z : _≡_ {A = ℕ} 0 1 = cc in omega arith)
+by-misshapen l (whole d e) h = no-confusion cc
+by-misshapen l beginning h = no-confusion cc
 by-misshapen l misshapen h = refl
 
 by-whole : (l : List Slot) (x : Cut) (o : Outline) → front.Whole o ≡ front-by l x → (d : ℕ) × (e : ℕ) × (x ≡ whole d e) × (o ≡ outlineOf e (take (d + e) l))
 unfolding front-by
 by-whole l (whole d e) o h = (d, e, refl, (cc))
-by-whole l beginning o h = absurd (let z : _≡_ {A = ℕ} 0 1 = cc in omega arith)
-by-whole l misshapen o h = absurd (let z : _≡_ {A = ℕ} 0 1 = cc in omega arith)
+by-whole l beginning o h = no-confusion cc
+by-whole l misshapen o h = no-confusion cc
 
 pub front-beginning : (l : List Slot) → front.Beginning ≡ frontOf l → divide l ≡ beginning
 unfolding frontOf front-by
@@ -83,15 +71,15 @@ unfolding frontOf front-by
 front-whole l o h = by-whole l (divide l) o h
 
 -- a whole packet at the front of n slots posted at counter c
-module _ (page : List ℕ) (c n : ℕ) (few : n ≤ 256) (d e : ℕ) (cut : divide (slotsFrom 12 256 page c n) ≡ whole d e) (o : Outline) (is : o ≡ outlineOf e (take (d + e) (slotsFrom 12 256 page c n))) where
+module _ (page : List ℕ) (c n : ℕ) (few : n ≤ 256) (d e : ℕ) (cut : divide (transmitSlots page c n) ≡ whole d e) (o : Outline) (is : o ≡ outlineOf e (take (d + e) (transmitSlots page c n))) where
   counts : (d + e ≤ n) × (1 ≤ d) × (d ≤ 18)
   counts =
-      let f = divide-whole (slotsFrom 12 256 page c n) d e cut in
+      let f = divide-whole (transmitSlots page c n) d e cut in
       let size : length (f .front) ≡ d + e = omega (arith, packet-length (f .packet), f .countsData, f .countsExtras) in
       let all : n ≡ length (f .front) + length (f .tail) = sym (slots-length 12 256 page n c) ∙ ap length (f .joined) ∙ length-append (f .front) (f .tail) in
       (omega arith, omega (arith, f .countsData), omega (arith, within-datas _ _ (f .packet .limit), f .countsData))
 
-  packet-is : take (d + e) (slotsFrom 12 256 page c n) ≡ slotsFrom 12 256 page c (d + e)
+  packet-is : take (d + e) (transmitSlots page c n) ≡ transmitSlots page c (d + e)
   packet-is =
       let z : d + e + (n - (d + e)) ≡ n = omega (arith, counts) in
       rw z at (slots-take 12 256 page (d + e) (n - (d + e)) c)
@@ -104,12 +92,12 @@ module _ (page : List ℕ) (c n : ℕ) (few : n ≤ 256) (d e : ℕ) (cut : divi
   unfolding outlineOf
   extras-are = ap (λ (x : Outline). x .extras) is
 
-  pub packet-whole : take (d + e) (slotsFrom 12 256 page c n) ≡ packetAt page c o
-  packet-whole = packet-is ∙ ap (slotsFrom 12 256 page c) (sym slots-are)
+  pub packet-whole : take (d + e) (transmitSlots page c n) ≡ packetAt page c o
+  packet-whole = packet-is ∙ ap (transmitSlots page c) (sym slots-are)
 
   pub whole-ready : Ready page c o
   whole-ready = record {
-    outline = is ∙ ap (λ (x : ℕ). outlineOf x (take (d + e) (slotsFrom 12 256 page c n))) (sym extras-are) ∙ ap (outlineOf (o .extras)) packet-whole;
+    outline = is ∙ ap (λ (x : ℕ). outlineOf x (take (d + e) (transmitSlots page c n))) (sym extras-are) ∙ ap (outlineOf (o .extras)) packet-whole;
     some = omega (arith, counts, slots-are, extras-are);
     few = omega (arith, counts, slots-are);
     datas = omega (arith, counts, slots-are, extras-are);
@@ -171,64 +159,35 @@ module _ (table window : List ℕ) (e : ℕ) (p : List Slot) (pages offsets size
   unfolding InWindow HoldsParts
   plan-inside i k = rw (at pages (map (slotPage table) (datasOf e p)) ps i k, at offsets (map offset (datasOf e p)) os i k, at sizes (parts e p) ss i k) (inside i (omega arith))
 
--- ---- the table of sizes
-
-column-back : (t : List ℕ) (v : ℕ) (b : List ℕ) (n : ℕ) → 0 < length t → n ≡ suc (length b) → take n (set (splice t 1 b) 0 v) ≡ v ∷ b
-unfolding splice
-column-back [] v b n h e = absurd (omega arith)
-column-back (x ∷ t) v b n h e = rw e (ap (v ∷_) (take-at b (drop (1 + length b) (x ∷ t)) (length b) refl))
-
--- the later sizes as the divider left them, and the first slot's part before them
-pub parts-held : (o : Outline) (e : ℕ) (p : List Slot) → o ≡ outlineOf e p → (before after : List ℕ) (own : ℕ) → own ≡ o .head .size - o .later
-    → after ≡ splice before 1 (map size (laterOf e p)) → 0 < length before → HoldsParts (set after 0 own) e p
-unfolding HoldsParts parts ownPart
-parts-held o e p is before after own h table some =
-    ap (λ (t : List ℕ). take (length (datasOf e p)) (set t 0 own)) table
-    ∙ column-back before own (map size (laterOf e p)) (length (datasOf e p)) some (ap suc (sym (length-map (laterOf e p) size)))
-    ∙ ap (λ (x : ℕ). x ∷ map size (laterOf e p)) (h ∙ rw (total-of o e p is, sum-of o e p is))
-
 -- ---- what a call leaves of a packet that it takes
 
-module _ (page : List ℕ) (c : ℕ) (o : Outline) (e : ℕ) (p : List Slot) (slots : o .slots ≡ length p) (after : List ℕ) (r : Consumed) where
-  pub gives-spoiled : (cause place : ℕ) → ConsumedAs page c (o .slots) e error after r → (frame : List ℕ)
-      → Gives (spoiled c page frame e p cause place) (record { answer = Spoiled cause place (o .slots) (r .notify); queue = record { consumed = r .counter; halted = false } }) after frame
+module _ (page : List ℕ) (c : ℕ) (o : Outline) (e : ℕ) (p : List Slot) (replied after : List ℕ) (r : Outcome) where
+  pub gives-spoiled : (cause place : ℕ) → o .slots ≡ length p → replied ≡ repliesTo page c (o .slots) e error
+      → ((buffer : List ℕ) → Gives (consume (spoiledReport cause place (o .slots)) c (o .slots) replied buffer) r after buffer)
+      → (frame : List ℕ) → Gives (spoiled c page frame e p cause place) r after frame
   unfolding spoiled
-  gives-spoiled cause place h frame =
-      let n : r .notify ≡ notify Replies page c (wadd c (length p)) = h .notifyIs ∙ ap (λ (x : ℕ). notify Replies page c (wadd c x)) slots in
-      record {
-        report = λ i. spoiledReport cause place (slots i) (n i);
-        queue = ap goOn (h .counterIs ∙ ap (wadd c) slots);
-        page = h .pageIs ∙ ap (λ (x : ℕ). repliedPage page c x e error) slots;
-        frame = refl;
-      }
+  gives-spoiled cause place slots m h frame = rw (← slots, ← m) (h frame)
 
-  pub gives-done : (b v : Bool) → o ≡ outlineOf e p → b ≡ bit 0 (o .head .flags) → v ≡ bit 1 (o .head .flags) → ConsumedAs page c (o .slots) e okay after r → (table window frame : List ℕ)
-      → Gives (handedOver table window c page frame e p)
-      (record {
-        answer = Done (record { slots = o .slots; notify = r .notify; total = o .head .size; «checksum_blank» = b; «data_validated» = v; «gso_size» = o .«gso_size»; «gso_type» = o .«gso_type» });
-        queue = record { consumed = r .counter; halted = false };
-      })
-      after (splice frame 0 (frameOf table window e p))
-  unfolding handedOver doneReport
-  gives-done b v is bs vs h table window frame =
-      let n : r .notify ≡ notify Replies page c (wadd c (length p)) = h .notifyIs ∙ ap (λ (x : ℕ). notify Replies page c (wadd c x)) slots in
-      record {
-        report = λ i. record {
-          answer = 0;
-          cause = 0;
-          place = 0;
-          slots = slots i;
-          notifies = flag (n i);
-          total = total-of o e p is i;
-          blank = flag ((bs ∙ blank-of o e p is) i);
-          validated = flag ((vs ∙ validated-of o e p is) i);
-          gsoSizeWord = gso-size-of o e p is i;
-          gsoTypeWord = gso-type-of o e p is i;
-        };
-        queue = ap goOn (h .counterIs ∙ ap (wadd c) slots);
-        page = h .pageIs ∙ ap (λ (x : ℕ). repliedPage page c x e okay) slots;
-        frame = refl;
-      }
+  pub gives-done : (s : Summary) → s ≡ summaryOf e p → o .slots ≡ length p → replied ≡ repliesTo page c (o .slots) e okay
+      → ((buffer : List ℕ) → Gives (consume (doneReport s) c (s .slots) replied buffer) r after buffer)
+      → (table window frame : List ℕ) → Gives (handedOver table window c page frame e p) r after (splice frame 0 (frameOf table window e p))
+  unfolding handedOver summaryOf
+  gives-done s is slots m h table window frame =
+      let n : s .slots ≡ length p = ap (λ (x : Summary). x .slots) is in
+      rw (← (m ∙ ap (λ (k : ℕ). repliesTo page c k e okay) slots), ← is, ← n) (h (splice frame 0 (frameOf table window e p)))
+
+-- what is reported of a packet, by its outline
+pub summary-is : (o : Outline) (e : ℕ) (p : List Slot) → o ≡ outlineOf e p → (b v : Bool) → b ≡ bit 0 (o .head .flags) → v ≡ bit 1 (o .head .flags)
+    → _≡_ {A = Summary} (record { slots = o .slots; total = o .head .size; «checksum_blank» = b; «data_validated» = v; «gso_size» = o .«gso_size»; «gso_type» = o .«gso_type» }) (summaryOf e p)
+unfolding summaryOf outlineOf
+summary-is o e p is b v bs vs = λ i. record {
+  slots = is i .slots;
+  total = total-of o e p is i;
+  «checksum_blank» = (bs ∙ blank-of o e p is) i;
+  «data_validated» = (vs ∙ validated-of o e p is) i;
+  «gso_size» = gso-size-of o e p is i;
+  «gso_type» = gso-type-of o e p is i;
+}
 
 -- ---- by the verdict
 
@@ -243,7 +202,3 @@ module _ (table window : List ℕ) (q : Queue) (page frame : List ℕ) (e : ℕ)
 
     pub packet-done : totalOf p ≤ length frame → takePacket table window q page frame e p (judge table window e p) ≡ handedOver table window (q .consumed) page frame e p
     packet-done h = rw (good, le-ltb (length frame) (totalOf p) h)
-
--- an answer that takes nothing
-pub gives-refusal : (n : ℕ) (q : Queue) (page frame : List ℕ) (a : Answer) → reportOf a ≡ plain n → Gives (refusal n q page frame) (record { answer = a; queue = refusal n q page frame .queue }) (refusal n q page frame .page) frame
-gives-refusal n q page frame a h = record { report = h; queue = refl; page = refl; frame = refl }

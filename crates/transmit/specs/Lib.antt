@@ -1,4 +1,4 @@
 -- The definitions that the promises cite, in reading order.
 pub mod Take
 pub mod Sequence
-pub mod Code
+pub mod Stages

@@ -5,9 +5,8 @@ use mathlib.Core.Path.{_≡_, ap, subst}
 use Prim.Native.Nat.{_-_, _≤_}
 use native.Mathlib.Omega.{arith}
 use lib.ListN.{length, length-set}
-use Rattle.ring.specs.Ring.{slotsFrom}
 use Rattle.ring.proofs.Ring.{slots-length}
-use Rattle.netif.specs.Slot.{slotWidth, slotCount}
+use Rattle.netif.specs.Slot.{slotWidth, slotCount, transmitSlots}
 use Rattle.division.specs.Answer.{StepIs}
 use Rattle.division.specs.declared.Ending.the-variants as ending
 use Rattle.division.proofs.Cutting.{Cutting, none-of-nothing, packet-left, cutting-start, cutting-next, cutting-end}
@@ -17,7 +16,7 @@ use Rattle.fast_reader.proofs.cut.Tie as tie
 
 abbrev Inv-loop : tie.InvT-loop
 Inv-loop page slots cuts₀ at₀ count₀ cuts at count =
-    Cutting (slotsFrom slotWidth slotCount page 0 slots) cuts₀ cuts count (slotsFrom slotWidth slotCount page at (slots - at))
+    Cutting (transmitSlots page 0 slots) cuts₀ cuts count (transmitSlots page at (slots - at))
     × (at ≤ slots)
     × (count ≤ at)
     × (length cuts ≡ slotCount)
@@ -29,7 +28,7 @@ loop-holds : tie.Need-loop-holds Inv-loop μ-loop
 loop-holds c =
     let a = c .before .args in
     let all : a .slots - 0 ≡ a .slots = omega arith in
-    (rw all (cutting-start (slotsFrom slotWidth slotCount (a .page .now) 0 (a .slots)) (a .cuts .now)), omega arith, omega arith, c .before .pre .2)
+    (rw all (cutting-start (transmitSlots (a .page .now) 0 (a .slots)) (a .cuts .now)), omega arith, omega arith, c .before .pre .2)
 
 cast-front : tie.Need-cast-front Inv-loop μ-loop
 cast-front c = search needs
@@ -91,7 +90,7 @@ returns-2 c =
     let a = c .before .before .before .args in
     let l = c .before .loop in
     let none : a .slots - l .at ≡ 0 = omega arith in
-    let nothing = ap (slotsFrom slotWidth slotCount (a .page .now) (l .at)) none in
+    let nothing = ap (transmitSlots (a .page .now) (l .at)) none in
     cutting-end _ _ _ _ _ (l .inv .0) ending.Empty (none-of-nothing _ nothing) nothing
 
 pub cut-spec : {M : Type 1} → statement M

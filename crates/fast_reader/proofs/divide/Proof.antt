@@ -5,8 +5,7 @@ use mathlib.Core.Path.{refl, ap, _∙_}
 use Prim.Native.Nat.{_/_}
 use native.Mathlib.Omega.{arith}
 use lib.ListN.{length}
-use Rattle.ring.specs.Ring.{slotsFrom}
-use Rattle.netif.specs.Slot.{slotWidth, slotCount}
+use Rattle.netif.specs.Slot.{slotWidth, transmitSlots}
 use Rattle.division.specs.declared.Divided.the-variants as divided
 use Rattle.fast_reader.proofs.Laid.{slots-laid}
 use Rattle.division.proofs.Agreement.{divided-only}
@@ -38,7 +37,7 @@ returns-3 : tie.Need-returns-3
 returns-3 c =
     let a = c .before .before .before .before .before .before .before .before .before .args in
     let k = length (a .run .now) / slotWidth in
-    let run = ap (λ page. slotsFrom slotWidth slotCount page 0 k) (c .before .before .before .before .lay .ensures)
+    let run = ap (λ page. transmitSlots page 0 k) (c .before .before .before .before .lay .ensures)
     ∙ slots-laid _ (a .run .now) (omega arith) (omega arith) k 0 (omega arith) in
     divided-only _ _ _ (divided.Cut (c .cut .result)) (omega arith, omega arith, rw run at (c .cut .ensures))
 

@@ -1,4 +1,4 @@
--- `fast_reader::front` meets its contract: what netif's divider answers is, by the grammar's laws, what stands at the front, and a packet that
+-- `fast_reader::front` meets its contract: what the divider answers is, by the grammar's laws, what stands at the front, and a packet that
 -- it reports is as many slots long as its outline says.
 use borrow.Author.Needs.{needs}
 use mathlib.Core.Path.{_≡_, refl, sym, ap, _∙_, subst}
@@ -7,15 +7,15 @@ use mathlib.Core.List.{List, []}
 use Prim.Native.Nat.{ℕ, _+_, _≤_}
 use native.Mathlib.Omega.{arith}
 use lib.ListN.{length, take, length-append}
-use Rattle.ring.specs.Ring.{slotsFrom}
+use Rattle.words.proofs.Word.{no-confusion}
 use Rattle.ring.proofs.Ring.{slots-length}
-use Rattle.netif.specs.Slot.{Slot, slotWidth, slotCount}
-use Rattle.netif.specs.Grammar.{AtFront}
-use Rattle.netif.specs.Divide.{Cut, whole, beginning, misshapen, divide}
-use Rattle.netif.specs.Front.{outlineOf, frontOf}
-use Rattle.netif.specs.declared.divider.Front.{Front}
-use Rattle.netif.specs.declared.divider.Front.the-variants as front
-use Rattle.netif.proofs.Grammar.{front-slots, whole-iff, beginning-iff, misshapen-iff, none-found}
+use Rattle.netif.specs.Slot.{Slot, slotWidth, slotCount, transmitSlots}
+use Rattle.grammar.specs.Grammar.{AtFront}
+use Rattle.grammar.specs.Divide.{Cut, whole, beginning, misshapen, divide}
+use Rattle.grammar.specs.Stages.{outlineOf, frontOf}
+use Rattle.grammar.specs.declared.Front.{Front}
+use Rattle.grammar.specs.declared.Front.the-variants as front
+use Rattle.grammar.proofs.Grammar.{front-slots, whole-iff, beginning-iff, misshapen-iff, none-found}
 use Rattle.division.specs.Answer.{StepIs}
 use Rattle.division.specs.declared.Ending.the-variants as ending
 use Rattle.division.specs.declared.Step.{Step}
@@ -23,7 +23,7 @@ use Rattle.division.specs.declared.Step.the-variants as step
 use Rattle.fast_reader.proofs.front.Statement.{statement}
 use Rattle.fast_reader.proofs.front.Tie as tie
 
--- what an answer of netif's divider says
+-- what an answer of the divider says
 abbrev stepOf : Front → Step
 stepOf (front.Whole o) = step.Packet (o .slots)
 stepOf front.Beginning = step.Stop ending.Waiting
@@ -43,13 +43,13 @@ module _ (l : List Slot) where
     where
       go : (c : Cut) → divide l ≡ c → StepIs l (stepOf (frontOf l))
       go (whole d e) h = rw h (packet-step d e (whole-iff l d e .0 h))
-      go beginning h = rw h (none-found l (λ d e k. let z : _≡_ {A = ℕ} 0 1 = cc in omega arith), (some, beginning-iff l .0 h))
+      go beginning h = rw h (none-found l (λ d e k. no-confusion cc), (some, beginning-iff l .0 h))
       go misshapen h = let m = misshapen-iff l .0 h in rw h (m .1, m .0)
 
 -- the same of slots on a page, for an answer read off it
-read-step : (page : List ℕ) (at left : ℕ) (r o : Front) → 1 ≤ left → r ≡ frontOf (slotsFrom slotWidth slotCount page at left) → r ≡ o → StepIs (slotsFrom slotWidth slotCount page at left) (stepOf o)
+read-step : (page : List ℕ) (at left : ℕ) (r o : Front) → 1 ≤ left → r ≡ frontOf (transmitSlots page at left) → r ≡ o → StepIs (transmitSlots page at left) (stepOf o)
 read-step page at left r o some h k =
-    let l = slotsFrom slotWidth slotCount page at left in
+    let l = transmitSlots page at left in
     subst (λ x. StepIs l (stepOf x)) (sym h ∙ k) (answer-step l (λ z. omega (arith, slots-length slotWidth slotCount page left at, ap length z)))
 
 read-requires : tie.Need-read-requires

@@ -5,7 +5,7 @@ use Prim.Native.Nat.{ℕ, suc, _-_, _≤_, _<_}
 use native.Mathlib.Omega.{arith}
 use borrow.Author.Count.{below-more}
 use borrow.Author.Needs.{needs}
-use Rattle.netif.proofs.Within.{within-extras}
+use Rattle.grammar.proofs.Within.{within-extras}
 use Rattle.division.specs.Run.{slotsIn}
 use Rattle.slow_reader.specs.Asking.{AskedWith}
 use Rattle.slow_reader.specs.declared.Asked.the-variants as asked

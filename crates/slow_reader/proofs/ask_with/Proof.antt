@@ -8,8 +8,9 @@ use native.Mathlib.Omega.{arith}
 use lib.ListN.{length}
 use borrow.Author.Count.{below-more}
 use borrow.Author.Needs.{needs}
-use Rattle.netif.specs.Grammar.{within}
-use Rattle.netif.proofs.Within.{within-most, within-datas}
+use Rattle.words.proofs.Word.{no-confusion}
+use Rattle.grammar.specs.Grammar.{within}
+use Rattle.grammar.proofs.Within.{within-most, within-datas}
 use Rattle.division.specs.Run.{slotsIn}
 use Rattle.division.specs.Shape.{shaped}
 use Rattle.division.proofs.Runs.{slots-length}
@@ -67,7 +68,7 @@ loop-again c =
     let a = c .before .before .before .before .args in (
       below-more _ _ (l .inv .0)
           (λ w n h. ⊎-elim
-          (λ v. let z : true ≡ false = sym h ∙ sym (v .1 .ensures) ∙ v .2 .left in let y : _≡_ {A = ℕ} 0 1 = cc in omega arith)
+          (λ v. let z : true ≡ false = sym h ∙ sym (v .1 .ensures) ∙ v .2 .left in no-confusion cc)
           (λ v. omega (arith, v .left, slots-length (a .run .now) (a .n) (a .at)))
           (c .if1 .came)),
       omega arith,

@@ -4,8 +4,8 @@ use mathlib.Core.Path.{_≡_, subst}
 use Prim.Native.Nat.{_+_, _-_, _≤_}
 use native.Mathlib.Omega.{arith}
 use borrow.Author.Needs.{needs}
-use Rattle.netif.specs.Grammar.{BeginsProperly}
-use Rattle.netif.proofs.Grammar.{nothing-begins}
+use Rattle.grammar.specs.Grammar.{BeginsProperly}
+use Rattle.grammar.proofs.Grammar.{nothing-begins}
 use Rattle.division.specs.Run.{slotsIn}
 use Rattle.slow_reader.specs.Asking.{AskedIs}
 use Rattle.slow_reader.proofs.Lengths.{front-packet, front-misshapen, front-waiting}

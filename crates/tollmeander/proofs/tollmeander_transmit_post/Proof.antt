@@ -1,8 +1,8 @@
 -- The export meets its contract: the call's own promise, and its answer as words.
 use borrow.Author.Needs.{needs}
 use mathlib.Core.Path.{ap, _∙_}
-use Rattle.netif.specs.Report.{Report}
-use Rattle.tollmeander.specs.Interface.{reportWords}
+use Rattle.answer.specs.Report.{Report}
+use Rattle.answer.specs.Words.{reportWords}
 use Rattle.tollmeander.proofs.tollmeander_transmit_post.Statement.{statement}
 use Rattle.tollmeander.proofs.tollmeander_transmit_post.Tie as tie
 

@@ -9,10 +9,10 @@ use borrow.Author.Count.{below-none, below-more}
 use borrow.Author.Needs.{needs}
 use Rattle.words.specs.Word.{splice}
 use Rattle.words.proofs.Word.{splice-length, splice-before, splice-inside, part-same}
-use Rattle.ring.specs.Ring.{wadd, slotAt}
+use Rattle.ring.specs.Ring.{wadd}
 use Rattle.ring.proofs.Ring.{slot-length}
 use Rattle.ring.proofs.Replied.{slot-ahead}
-use Rattle.netif.specs.Slot.{slotWidth, slotCount}
+use Rattle.netif.specs.Slot.{slotWidth, slotCount, transmitSlot}
 use Rattle.division.specs.Run.{slotIn}
 use Rattle.compare.specs.Stored.{Taken}
 use Rattle.compare.proofs.stored.take.Statement.{statement}
@@ -42,10 +42,10 @@ taken-none page from run = below-none _
 
 -- one slot more: slot m of the page, which is the one i behind the first
 taken-more : (page : List ℕ) (from i m : ℕ) (run : List ℕ) → 64 + slotWidth * slotCount ≤ length page → slotWidth * i + slotWidth ≤ length run → m ≡ wadd from i
-    → Taken page from i run → Taken page from (i + 1) (splice run (slotWidth * i) (slotAt slotWidth slotCount page m))
+    → Taken page from i run → Taken page from (i + 1) (splice run (slotWidth * i) (transmitSlot page m))
 unfolding Taken
 taken-more page from i m run big fits ahead all =
-    let s = slotAt slotWidth slotCount page m in
+    let s = transmitSlot page m in
     let w = slot-length slotWidth slotCount (omega arith) page big m in
     below-more _ i
     (λ k lt. slot-there run s i w fits k lt ∙ all k lt)

@@ -7,9 +7,8 @@ use lib.ListN.{length, take, drop, length-take, length-drop}
 use borrow.Author.Needs.{needs}
 use Rattle.words.specs.Word.{splice}
 use Rattle.words.proofs.Word.{part-written}
-use Rattle.ring.specs.Ring.{slotAt}
 use Rattle.ring.proofs.Ring.{slot-length}
-use Rattle.netif.specs.Slot.{slotWidth, slotCount}
+use Rattle.netif.specs.Slot.{slotWidth, slotCount, transmitSlot}
 use Rattle.compare.proofs.stored.take_slot.Statement.{statement}
 use Rattle.compare.proofs.stored.take_slot.Tie as tie
 
@@ -43,7 +42,7 @@ same-length c = search needs
 returns : tie.Need-returns
 returns c =
     let a = c .before .before .before .before .before .before .before .args in
-    let s = slotAt slotWidth slotCount (a .page .now) (a .n) in
+    let s = transmitSlot (a .page .now) (a .n) in
     let n = slotWidth * a .i + slotWidth - slotWidth * a .i in
     let e = c .before .before .before .before .slot .ensures in
     ap (λ (b : List ℕ). take (slotWidth * a .i) (a .run .now) ++ (b ++ drop n (drop (slotWidth * a .i) (a .run .now)))) (c .before .before .copy .ensures .0 ∙ ap (splice (take n (drop (slotWidth * a .i) (a .run .now))) 0) e)

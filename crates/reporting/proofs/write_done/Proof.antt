@@ -1,0 +1,30 @@
+-- `write_done` meets its contract: the ten words in their order, each flag as its word.
+use mathlib.Core.Path.{refl}
+use Rattle.answer.specs.Words.{reportWords}
+use borrow.Author.Needs.{needs}
+use Rattle.reporting.proofs.write_done.Statement.{statement}
+use Rattle.reporting.proofs.write_done.Tie as tie
+
+word-requires : tie.Need-word-requires
+word-requires c κs = search needs
+
+word-requires-2 : tie.Need-word-requires-2
+word-requires-2 c κs = search needs
+
+word-requires-3 : tie.Need-word-requires-3
+word-requires-3 c κs = search needs
+
+cast-gso-size : tie.Need-cast-gso-size
+cast-gso-size c = search needs
+
+cast-gso-type : tie.Need-cast-gso-type
+cast-gso-type c = search needs
+
+returns : tie.Need-returns
+unfolding reportWords
+returns c = (refl, rw (c .before .before .before .before .before .word .ensures, c .before .before .before .before .word2 .ensures, c .before .before .before .word3 .ensures))
+
+pub write-done-spec : {M : Type 1} → statement M
+write-done-spec =
+    tie.close
+    (tie.spec word-requires word-requires-2 word-requires-3 cast-gso-size cast-gso-type returns)
