@@ -1,5 +1,5 @@
-# make                  build/libtollmeander.a, proved, with its pkg-config file
-# make install PREFIX=..  library, header and pkg-config file
+# make                  build/libtollmeander.a, proved; build/libtollmeander-host.a, which is host/
+# make install PREFIX=..  both archives, their headers and pkg-config files
 # make demo             eight guests and the host between them
 # make test             the gate: all proofs, then all tests
 # make bench            the library beside plain C

@@ -47,7 +47,7 @@ static bool check_host(unsigned number, const struct outcome *expected, const st
     right &= agree(number, "last answer", vif->last_answer, expected->last_answer);
     right &= agree(number, "disconnected", vif->disconnected,
                    expected->last_answer == TOLLMEANDER_MISSHAPEN);
-    right &= agree(number, "unexpected answers on the receive ring", vif->unexpected, 0);
+    right &= agree(number, "unexpected answers to the host", vif->unexpected, 0);
     right &= agree(number, "frames delivered or dropped", vif->delivered + vif->dropped,
                    expected->frames);
     if (vif->spoiled > 0) {

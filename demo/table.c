@@ -3,25 +3,7 @@
 #include <inttypes.h>
 #include <stdio.h>
 
-static const char *answer_name(uint32_t answer)
-{
-    static const char *const names[] = {
-        "done", "bad page", "halted", "overflow", "empty", "misshapen", "waiting", "spoiled",
-        "no room", "bad length", "no buffers"
-    };
-
-    return answer < sizeof names / sizeof names[0] ? names[answer] : "unknown";
-}
-
-static const char *cause_name(uint32_t cause)
-{
-    static const char *const names[] = {
-        "none", "too short", "reserved", "sizes above total", "page not granted",
-        "part leaves its range", "bad gso"
-    };
-
-    return cause < sizeof names / sizeof names[0] ? names[cause] : "unknown";
-}
+#include "names.h"
 
 void table_print_head(void)
 {
@@ -39,7 +21,9 @@ static bool is_served(const struct guest *guest, const struct vif *vif)
 
 static void print_state(const struct guest *guest, const struct vif *vif)
 {
-    if (vif->disconnected)
+    if (vif->unexpected > 0)
+        puts("DISCONNECTED: an answer came that must not");
+    else if (vif->disconnected)
         puts("halted and disconnected; the others went on");
     else if (guest->sender.crashed)
         printf("crashed, %u of %u slots posted: device got none\n", guest->sender.place,
@@ -48,7 +32,7 @@ static void print_state(const struct guest *guest, const struct vif *vif)
         puts("NOT FINISHED");
     else if (vif->spoiled > 0)
         printf("sound; spoiled by cause %u (%s) at place %u\n", vif->last_spoiled.cause,
-               cause_name(vif->last_spoiled.cause), vif->last_spoiled.place);
+               tollmeander_cause_name(vif->last_spoiled.cause), vif->last_spoiled.place);
     else
         puts("sound; all sent, all delivered back");
 }
@@ -56,7 +40,8 @@ static void print_state(const struct guest *guest, const struct vif *vif)
 void table_print_line(unsigned number, const struct guest *guest, const struct vif *vif)
 {
     printf("%5u > %-6u  %9" PRIu64 "  %13" PRIu64 "  %7" PRIu64 "  %-11s  ", number, number,
-           vif->device.frames, vif->device.bytes, vif->spoiled, answer_name(vif->last_answer));
+           vif->device.frames, vif->device.bytes, vif->spoiled,
+           tollmeander_answer_name(vif->last_answer));
     print_state(guest, vif);
 }
 

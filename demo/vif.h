@@ -15,8 +15,8 @@
 #include "guest.h"
 
 struct vif {
-    struct back_ring transmit;
-    struct back_ring receive;
+    struct back_transmit transmit;
+    struct back_receive receive;
     struct guest_memory memory;
     struct device device;
     struct events *events;
@@ -27,7 +27,7 @@ struct vif {
     uint64_t spoiled;
     uint64_t delivered;
     uint64_t dropped;
-    uint64_t unexpected;                    /* answers on the receive ring that must not come */
+    uint64_t unexpected;                    /* answers that must not come, on either ring */
     uint32_t held;                          /* length of the frame that goes back; 0 if none */
     uint8_t frame[TOLLMEANDER_FRAME_MAX];
 };

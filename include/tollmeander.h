@@ -184,8 +184,13 @@ extern "C" {
  *       compile: this library would read its table wrongly.
  * NOTE: The table is the host's own, not the guest's. Fill in a word only for a
  *       page that is mapped now, with the access that it was mapped with; clear
- *       it before unmapping, and where mapping failed. Keep a page mapped until
- *       the replies that concern it are published.
+ *       it before unmapping, and where mapping failed.
+ * NOTE: Keep a page mapped until the call has returned, and unmap it before the
+ *       replies that concern it are published. A guest takes its page back when it
+ *       reads the reply. Linux then ends the grant; if the host has the page mapped
+ *       still, it logs "Grant still in use by backend domain" and switches its
+ *       interface off for good, while the host is told nothing. Or move data by
+ *       grant copy, and map nothing.
  */
 #define TOLLMEANDER_GRANT_WORD_SIZE     8u
 #define TOLLMEANDER_GRANTED             1u      /* bits of octets 0 to 3 */
@@ -351,10 +356,10 @@ struct tollmeander_report {
  *    after EMPTY, WAITING and NO_BUFFERS req_event. The whole page written back
  *    would undo what the guest has written since.
  *
- * 5. Publish, then decide on the notification, in this order: the replies; a
- *    release barrier (the guest sees the replies first, and gets its pages back
- *    only after they were read or written); rsp_prod; a full barrier; only now
- *    read the guest's rsp_event, and notify if
+ * 5. Publish, then decide on the notification, in this order: pages unmapped, or
+ *    pieces copied out; the replies; a release barrier (the guest sees the replies
+ *    first, and gets its pages back only after they were read or written);
+ *    rsp_prod; a full barrier; only now read the guest's rsp_event, and notify if
  *    (uint32_t)(rsp_prod - rsp_event) < slots. An rsp_event read earlier may be
  *    old: a guest that is not notified sleeps on. One notification too many does
  *    no harm.
@@ -373,8 +378,9 @@ struct tollmeander_report {
  *    call as the last one left them. A fresh queue has mark 0, and req_prod and
  *    rsp_prod equal to its counter, commonly 0.
  *
- * host/back_ring.c in the sources does 3 to 6 and 8 for a page that the guest
- * has mapped. Copy it or link it.
+ * back_ring (host/ in the sources, <tollmeander/back_ring.h> where installed) does
+ * 3 to 6 and 8 for a page that the guest has mapped: in one call, or in steps with
+ * a place for mapping before the call and for unmapping before publishing.
  */
 
 /*
@@ -493,8 +499,8 @@ uint32_t tollmeander_receive_put(uint32_t *consumed, uint32_t *halted,
  * NOTE: The octets of the last page behind the piece stay as they were, and the
  *       backend can read them. Clear them if it is not trusted.
  * NOTE: On a page that the backend has mapped too, the slots must be seen before
- *       req_prod, and notify must be decided after it. host/front_ring.c lends a
- *       private page and does both. Copy it or link it.
+ *       req_prod, and notify must be decided after it. front_ring (host/ in the
+ *       sources) lends a private page and does both.
  */
 uint32_t tollmeander_transmit_post(uint32_t replies_read,
                                    uint8_t *ring, size_t ring_len,

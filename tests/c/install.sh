@@ -1,6 +1,6 @@
 #!/bin/sh
-# After make install a C program is compiled by pkg-config alone, as C99 and as C++, with WARNINGS:
-# install.sh ARCHIVE WORKDIR
+# After make install C programs are compiled by pkg-config alone, as C99 and as C++, with WARNINGS: one
+# with the library, one with host/ too, which can be linked into a shared object: install.sh ARCHIVE WORKDIR
 set -eu
 lib=$1
 work=$2
@@ -8,19 +8,24 @@ prefix=$work/prefix
 warnings=${WARNINGS:?}
 
 make -s -f c.mk install TOLLMEANDER_LIB="$lib" BUILD="$work/build" PREFIX="$prefix"
-cp tests/c/example.c "$work/program.c"
-cp tests/c/example.c "$work/program.cc"
-cd "$work"
 export PKG_CONFIG_LIBDIR="$prefix/lib/pkgconfig"
 unset PKG_CONFIG_PATH
-flags=$(pkg-config --cflags --libs tollmeander)
+
+# Compiles a test's source as C99 and as C++, and runs it: build_and_run SOURCE PACKAGE
+build_and_run() {
+    flags=$(pkg-config --cflags --libs "$2")
+    cp "tests/c/$1.c" "$work/program.c"
+    cp "tests/c/$1.c" "$work/program.cc"
+    for compiler in 'gcc -std=c99 program.c' 'g++ program.cc' 'g++ -std=c++98 program.cc'; do
+        # shellcheck disable=SC2086
+        (cd "$work" && $compiler $warnings $flags -o program && ./program > /dev/null)
+    done
+}
+
+build_and_run library_alone tollmeander
+build_and_run example tollmeander-host
+
+flags=$(pkg-config --cflags --libs tollmeander-host)
 # shellcheck disable=SC2086
-gcc -std=c99 $warnings program.c $flags -o program-c
-# shellcheck disable=SC2086
-g++ $warnings program.cc $flags -o program-cc
-# shellcheck disable=SC2086
-g++ -std=c++98 $warnings program.cc $flags -o program-cc98
-./program-c > /dev/null
-./program-cc > /dev/null
-./program-cc98 > /dev/null
-pkg-config --modversion tollmeander
+gcc -std=c99 $warnings -fPIC -shared -Wl,-z,defs "$work/program.c" $flags -o "$work/program.so"
+pkg-config --modversion tollmeander-host

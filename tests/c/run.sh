@@ -37,11 +37,13 @@ check 'calls: take' brief program tests/take
 check 'calls: put' brief program tests/put
 check 'calls: post' brief program tests/post
 check 'symbols: memmove only, PIE, shared object' brief sh tests/c/symbols.sh "$lib" "$work"
-check 'install: pkg-config, C99, C++' brief sh tests/c/install.sh "$lib" "$work"
+check 'install: pkg-config, C99, C++, the library and host/' brief sh tests/c/install.sh "$lib" "$work"
 check 'header: words of four octets do not compile' brief sh tests/c/old_table.sh "$work"
 check 'example: as in the README' brief sh tests/c/example.sh "$lib" "$work"
 check 'host: both ends serve C99 and C++' brief sh tests/host/headers.sh "$lib" "$work"
+check 'host: a call on the other ring does not compile' brief sh tests/host/two_types.sh "$work"
 check 'host: edges' brief program tests/edges
+check 'host: steps' brief program tests/steps
 check "host: edges of the driver's end" brief program tests/front_edges
 check 'host: every interleaving of one call' brief program tests/interleave
 check 'host: every interleaving of one call of the driver' brief program tests/front_interleave
@@ -49,12 +51,25 @@ check 'host: edits that must fail' brief timeout 100 sh tests/host/must_fail.sh 
 check 'host: transmit, 1,000,000 packets' brief program tests/transmit_run 1000000
 check 'host: receive, 1,000,000 frames' brief program tests/receive_run 1000000
 check 'host: post and take, 500,000 packets' brief program tests/post_run 500000
+check 'host: in steps, transmit, 300,000 packets' brief program tests/transmit_run 300000 2 steps
+check 'host: in steps, receive, 300,000 frames' brief program tests/receive_run 300000 2 steps
+check 'host: pages back before replies, 200,000 packets' brief program tests/returned 200000
 check 'host: transmit, slots rewritten' brief program tests/hostile_transmit 100000
 check 'host: receive, requests rewritten' brief program tests/hostile_receive 100000
+check 'host: in steps, transmit, slots rewritten' brief program tests/hostile_transmit 50000 2 steps
+check 'host: in steps, receive, requests rewritten' brief \
+      program tests/hostile_receive 50000 2 steps
 check 'host: transmit, thread sanitizer' brief program tsan/transmit_run 30000
 check 'host: receive, thread sanitizer' brief program tsan/receive_run 30000
 check 'host: post and take, thread sanitizer' brief program tsan/post_run 30000
 check 'host: transmit, slots rewritten, thread sanitizer' brief program tsan/hostile_transmit 10000
 check 'host: receive, requests rewritten, thread sanitizer' brief program tsan/hostile_receive 10000
+check 'host: in steps, transmit, thread sanitizer' brief program tsan/transmit_run 20000 2 steps
+check 'host: in steps, receive, thread sanitizer' brief program tsan/receive_run 20000 2 steps
+check 'host: in steps, transmit, slots rewritten, thread sanitizer' brief \
+      program tsan/hostile_transmit 10000 2 steps
+check 'host: in steps, receive, requests rewritten, thread sanitizer' brief \
+      program tsan/hostile_receive 10000 2 steps
+check 'host: pages back before replies, thread sanitizer' brief program tsan/returned 20000
 check 'demo: table, counts, options' brief demo
 check_result tests

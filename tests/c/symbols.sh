@@ -23,9 +23,9 @@ T tollmeander_transmit_take"
 include="-I$here/../../include"
 strict='-Wl,-z,text -Wl,-z,defs -Wl,--fatal-warnings'
 # shellcheck disable=SC2086
-gcc -fPIE -pie $include "$here/example.c" "$lib" $strict -o "$work/pie"
+gcc -fPIE -pie $include "$here/library_alone.c" "$lib" $strict -o "$work/pie"
 # shellcheck disable=SC2086
 gcc -shared -Wl,--whole-archive "$lib" -Wl,--no-whole-archive $strict -o "$work/libshared.so"
-gcc "$include" "$here/example.c" "$work/libshared.so" -Wl,-rpath,"$work" -o "$work/with-shared"
+gcc "$include" "$here/library_alone.c" "$work/libshared.so" -Wl,-rpath,"$work" -o "$work/with-shared"
 "$work/pie" > /dev/null
 "$work/with-shared" > /dev/null

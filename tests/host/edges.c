@@ -1,6 +1,7 @@
 /*
  * back_ring.c at its edges, on one thread: what it writes to the guest's page and what it leaves
  * alone, the wrap, a req_prod that overflows or goes back, halting, slots that are rewritten.
+ * Its steps are in steps.c.
  */
 #include <stdbool.h>
 #include <stdint.h>
@@ -14,7 +15,8 @@
 enum { FRAME_SIZE = 60 };
 
 static struct ring_page before;
-static struct back_ring ring;
+static struct back_transmit transmit;
+static struct back_receive receive;
 static struct tollmeander_report report;
 static uint8_t frame[TOLLMEANDER_FRAME_MAX];
 
@@ -26,16 +28,25 @@ static void open_page(uint32_t counter)
     open_pages();
 }
 
+/* The guest is gone and comes again. */
+static void reopen(void)
+{
+    back_ring_close(&transmit.ring);
+    back_ring_close(&receive.ring);
+}
+
 static void open_transmit(uint32_t counter)
 {
     open_page(counter);
-    back_ring_open_transmit(&ring, &page, counter);
+    reopen();
+    CHECK(back_transmit_open(&transmit, &page, counter));
 }
 
 static void open_receive(uint32_t counter)
 {
     open_page(counter);
-    back_ring_open_receive(&ring, &page, counter);
+    reopen();
+    CHECK(back_receive_open(&receive, &page, counter));
 }
 
 static void write_data(uint32_t n, uint32_t gref, uint32_t flags, uint32_t id, uint32_t size)
@@ -58,13 +69,13 @@ static void write_request(uint32_t n, uint32_t id, uint32_t gref)
 static uint32_t take(void)
 {
     memcpy(&before, &page, sizeof page);
-    return back_ring_take(&ring, &granted, frame, sizeof frame, &report);
+    return back_transmit_take(&transmit, &granted, frame, sizeof frame, &report);
 }
 
 static uint32_t put(size_t length)
 {
     memcpy(&before, &page, sizeof page);
-    return back_ring_put(&ring, &granted, frame, length, &report);
+    return back_receive_put(&receive, &granted, frame, length, &report);
 }
 
 /* Words of the page that the last call changed. */
@@ -176,7 +187,7 @@ static void overflow_halts(void)
     set_word(RING_REQ_PROD, 4 + 257);
     CHECK(take() == TOLLMEANDER_OVERFLOW);
     CHECK(changed() == 0);
-    CHECK(ring.halted == 1 && ring.consumed == 4);
+    CHECK(transmit.ring.halted == 1 && transmit.ring.consumed == 4);
     set_word(RING_REQ_PROD, 4 + 2);
     CHECK(take() == TOLLMEANDER_HALTED);
     CHECK(changed() == 0);
@@ -245,9 +256,9 @@ static void misshapen_halts(void)
     set_word(RING_REQ_PROD, 42);
     CHECK(take() == TOLLMEANDER_MISSHAPEN);
     CHECK(changed() == 0);
-    CHECK(back_ring_is_halted(take()));
+    CHECK(back_ring_next(take()) == BACK_DISCONNECT);
     CHECK(changed() == 0);
-    CHECK(ring.consumed == 40);
+    CHECK(transmit.ring.consumed == 40);
 }
 
 /* A packet without room is still there afterwards, as it was published. */
@@ -257,7 +268,9 @@ static void no_room_keeps_the_packet(void)
     write_data(1, GREF, 0, 77, FRAME_SIZE);
     set_word(RING_REQ_PROD, 2);
     memcpy(&before, &page, sizeof page);
-    CHECK(back_ring_take(&ring, &granted, frame, FRAME_SIZE - 1, &report) == TOLLMEANDER_NO_ROOM);
+    CHECK(back_transmit_take(&transmit, &granted, frame, FRAME_SIZE - 1, &report) ==
+          TOLLMEANDER_NO_ROOM);
+    CHECK(back_ring_next(report.answer) == BACK_MEND);
     CHECK(changed() == 0);
     write_data(1, 0, 0, 78, 1);
     CHECK(take() == TOLLMEANDER_DONE);
@@ -290,9 +303,10 @@ static void finds_slots_posted_before(void)
     open_page(0);
     write_data(0, GREF, 0, 5, FRAME_SIZE);
     set_word(RING_REQ_PROD, 1);
-    back_ring_open_transmit(&ring, &page, 0);
+    reopen();
+    CHECK(back_transmit_open(&transmit, &page, 0));
     CHECK(take() == TOLLMEANDER_DONE);
-    CHECK(back_ring_may_sleep(take()));
+    CHECK(back_ring_next(take()) == BACK_SLEEP);
 }
 
 int main(void)

@@ -23,7 +23,7 @@ enum {
 };
 
 static struct front_ring ring;
-static struct back_ring back;
+static struct back_transmit back;
 static struct tollmeander_report report;
 static struct front_packet packet;
 static uint8_t frame[LENGTH], taken_frame[LENGTH];
@@ -43,7 +43,8 @@ static uint32_t reached[OUTCOMES];
 static void take(void)
 {
     struct tollmeander_report taking;
-    uint32_t answer = back_ring_take(&back, &granted, taken_frame, sizeof taken_frame, &taking);
+    uint32_t answer = back_transmit_take(&back, &granted, taken_frame, sizeof taken_frame,
+                                         &taking);
 
     backend_sleeps = answer == TOLLMEANDER_EMPTY;
     backend_notified = taking.notify;
@@ -125,7 +126,8 @@ static void set_up(void)
     drain();
     set_word(RING_REQ_EVENT, COUNTER);
     set_word(RING_RSP_EVENT, COUNTER);
-    back_ring_open_transmit(&back, &page, COUNTER);
+    back_ring_close(&back.ring);
+    CHECK(back_transmit_open(&back, &page, COUNTER));
     open_pages();
     for (uint32_t i = 0; i < LENGTH; i++)
         frame[i] = (uint8_t)(i * 7 + i / 256);

@@ -133,7 +133,7 @@ static void run_guest(void)
 /* A word of the reply to request n, of the private page: the guest may have changed its own. */
 static uint32_t reply_word(uint32_t n, uint32_t word)
 {
-    return private_word(host.ring.page, ring_slot(RECEIVE_SLOT_WORDS, n) + word);
+    return private_word(host.receive.ring.page, ring_slot(RECEIVE_SLOT_WORDS, n) + word);
 }
 
 static bool is_reply(uint32_t n, uint32_t piece, bool last)
@@ -182,13 +182,13 @@ static bool is_right(uint32_t first, const uint8_t *frame, uint32_t length)
 }
 
 /* Puts one frame, or sleeps where there are no buffers. */
-static void deliver(const uint8_t *frame, uint32_t length, const struct guest_memory *memory)
+static void deliver(const uint8_t *frame, uint32_t length)
 {
     struct tollmeander_report report;
-    uint32_t first = host.ring.consumed;
-    uint32_t answer = back_ring_put(&host.ring, memory, frame, length, &report);
+    uint32_t first = host.receive.ring.consumed;
+    uint32_t answer = host_put(&host, frame, length, &report);
 
-    if (!host_is_done(&host, answer, back_ring_may_sleep(answer)))
+    if (!host_is_done(&host, answer, host_may_sleep(answer)))
         return;
     if (!is_right(first, frame, length))
         wrong_frames++;
@@ -198,7 +198,6 @@ static void deliver(const uint8_t *frame, uint32_t length, const struct guest_me
 static void run_host(void)
 {
     static uint8_t frame[MOST_PIECES * TOLLMEANDER_PAGE_SIZE];
-    struct guest_memory memory = version_pages_memory(&pages);
     struct rng rng = rng_of(options.seed, 1);
 
     while (frames < options.packets && host_goes_on(&host)) {
@@ -209,19 +208,21 @@ static void run_host(void)
         memset(frame, 1 + (int)(number % 255), length);
         memcpy(frame, &number, sizeof number);
         while (frames == number && host_goes_on(&host))
-            deliver(frame, length, &memory);
+            deliver(frame, length);
     }
     atomic_store_explicit(&finished, true, memory_order_release);
 }
 
 int main(int argc, char **argv)
 {
+    struct guest_memory memory = version_pages_memory(&pages);
+
     options = run_options_read(argc, argv);
     version_pages_grant(&pages);
-    channel_open(&host.events);
+    host_open(&host, &memory, (uint32_t)FIRST_COUNTER, options.in_steps);
     guest_rng = rng_of(options.seed, 2);
     slot_ring_open(&front, &page, RECEIVE_SLOT_WORDS, (uint32_t)FIRST_COUNTER);
-    back_ring_open_receive(&host.ring, &page, (uint32_t)FIRST_COUNTER);
+    back_receive_open(&host.receive, &page, (uint32_t)FIRST_COUNTER);
     threads_run(run_guest, run_host);
     printf("hostile receive: %" PRIu64 " frames, %" PRIu64 " requests rewritten, %" PRIu64
            " ruined, %" PRIu64 " wrong frames, %" PRIu64 " unexpected answers; %s\n",

@@ -249,7 +249,7 @@ static void run_guest(void)
 /* The reply to slot n, in the private page: the guest may have written over the one in its own. */
 static uint32_t reply_to(uint32_t n)
 {
-    return private_word(host.ring.page, ring_slot(TRANSMIT_SLOT_WORDS, n));
+    return private_word(host.transmit.ring.page, ring_slot(TRANSMIT_SLOT_WORDS, n));
 }
 
 /* The version of its last word that a slot was taken in, by its reply; VERSIONS if none. */
@@ -340,13 +340,13 @@ static bool is_right(uint32_t first, const uint8_t *frame, const struct tollmean
 }
 
 /* One turn of the host's loop. */
-static void serve(uint8_t *frame, const struct guest_memory *memory)
+static void serve(uint8_t *frame)
 {
     struct tollmeander_report report;
-    uint32_t first = host.ring.consumed;
-    uint32_t answer = back_ring_take(&host.ring, memory, frame, TOLLMEANDER_FRAME_MAX, &report);
+    uint32_t first = host.transmit.ring.consumed;
+    uint32_t answer = host_take(&host, frame, TOLLMEANDER_FRAME_MAX, &report);
 
-    if (!host_is_done(&host, answer, back_ring_may_sleep(answer)))
+    if (!host_is_done(&host, answer, host_may_sleep(answer)))
         return;
     if (!is_right(first, frame, &report))
         wrong_frames++;
@@ -356,20 +356,21 @@ static void serve(uint8_t *frame, const struct guest_memory *memory)
 static void run_host(void)
 {
     static uint8_t frame[TOLLMEANDER_FRAME_MAX];
-    struct guest_memory memory = version_pages_memory(&pages);
 
     while (packets < options.packets && host_goes_on(&host))
-        serve(frame, &memory);
+        serve(frame);
 }
 
 int main(int argc, char **argv)
 {
+    struct guest_memory memory = version_pages_memory(&pages);
+
     options = run_options_read(argc, argv);
     fill_pages(options.seed);
-    channel_open(&host.events);
+    host_open(&host, &memory, (uint32_t)FIRST_COUNTER, options.in_steps);
     guest_rng = rng_of(options.seed, 2);
     slot_ring_open(&front, &page, TRANSMIT_SLOT_WORDS, (uint32_t)FIRST_COUNTER);
-    back_ring_open_transmit(&host.ring, &page, (uint32_t)FIRST_COUNTER);
+    back_transmit_open(&host.transmit, &page, (uint32_t)FIRST_COUNTER);
     threads_run(run_guest, run_host);
     printf("hostile transmit: %" PRIu64 " packets, %" PRIu64 " slots rewritten, %" PRIu64
            " wrong frames, %" PRIu64 " unexpected answers; %s\n", packets, rewrites, wrong_frames,

@@ -1,6 +1,7 @@
 /*
- * The guest acts at every point of a host's call. No order may leave one side asleep with work to
- * do and no notification under way.
+ * The guest acts at every point of a host's call, made at once or in steps. No order may leave one
+ * side asleep with work to do and no notification under way; and no reply may be seen while the
+ * host has the page that it gives back still mapped.
  */
 #include <stdbool.h>
 #include <stdint.h>
@@ -8,6 +9,7 @@
 
 #include "check.h"
 #include "interleaving.h"
+#include "mapping.h"
 #include "slot_bits.h"
 
 #ifndef BACK_RING_SOURCE
@@ -17,11 +19,13 @@
 
 enum { SLOTS = 2, PART = 100 };
 
-static struct back_ring ring;
+static struct back_transmit transmit;
+static struct back_receive receive;
+static struct back_ring *ring;      /* of one of the two */
+static struct mapping mapping;
 static struct tollmeander_report report;
-static uint32_t answer;
 static uint8_t frame[SLOTS * TOLLMEANDER_PAGE_SIZE];
-static bool is_transmit;
+static bool is_transmit, in_steps;
 static uint32_t published;          /* the guest's req_prod */
 static bool guest_sleeps, guest_notified;
 
@@ -35,7 +39,7 @@ static void write_slot(void)
 {
     uint32_t n = published;
     uint32_t index = n - COUNTER;
-    uint32_t first = ring_slot(ring.slot_words, n);
+    uint32_t first = ring_slot(ring->slot_words, n);
     uint32_t flags = index == 0 ? MORE_DATA : 0;
     uint32_t size = index == 0 ? SLOTS * PART : PART;
 
@@ -61,13 +65,14 @@ static void ask_for_event(void)
     set_word(RING_RSP_EVENT, COUNTER + 1);
 }
 
-/* Sleeps unless rsp_prod has moved; then the replies must stand there. */
+/* Sleeps unless rsp_prod has moved; then the replies must stand there, and give the pages back. */
 static void see_whether_to_sleep(void)
 {
     guest_sleeps = word(RING_RSP_PROD) - COUNTER < 1;
     for (uint32_t n = COUNTER; n != published && !guest_sleeps; n++) {
-        uint32_t first = ring_slot(ring.slot_words, n);
+        uint32_t first = ring_slot(ring->slot_words, n);
 
+        CHECK(!mapping_has(&mapping, GREF + n - COUNTER));
         CHECK(word(first) == slot_id(n));
         CHECK(is_transmit || word(first + 1) >> 16 != 0);
     }
@@ -80,22 +85,58 @@ static void set_up(uint32_t posted)
     for (uint32_t at = RING_REQ_PROD; at <= RING_RSP_EVENT; at++)
         set_word(at, COUNTER);
     open_pages();
-    if (is_transmit)
-        back_ring_open_transmit(&ring, &page, COUNTER);
-    else
-        back_ring_open_receive(&ring, &page, COUNTER);
+    ring = is_transmit ? &transmit.ring : &receive.ring;
+    back_ring_close(ring);
+    CHECK(is_transmit ? back_transmit_open(&transmit, &page, COUNTER)
+                      : back_receive_open(&receive, &page, COUNTER));
+    mapping_open(&mapping, &granted, COUNTER);
     published = COUNTER;
     guest_sleeps = guest_notified = false;
     for (uint32_t i = 0; i < posted; i++)
         publish_slot();
 }
 
-static void call(void)
+static void call_at_once(void)
 {
     if (is_transmit)
-        answer = back_ring_take(&ring, &granted, frame, sizeof frame, &report);
+        back_transmit_take(&transmit, &granted, frame, sizeof frame, &report);
     else
-        answer = back_ring_put(&ring, &granted, frame, TOLLMEANDER_PAGE_SIZE + 1, &report);
+        back_receive_put(&receive, &granted, frame, TOLLMEANDER_PAGE_SIZE + 1, &report);
+}
+
+static void call_copied(void)
+{
+    struct guest_memory mapped = mapping_memory(&mapping);
+
+    if (is_transmit)
+        back_transmit_take_copied(&transmit, &mapped, frame, sizeof frame, &report);
+    else
+        back_receive_put_copied(&receive, &mapped, frame, TOLLMEANDER_PAGE_SIZE + 1, &report);
+}
+
+/* Maps on demand; unmaps before publishing, or with UNMAP_LATE after it, which must fail. */
+static void call_in_steps(void)
+{
+    back_ring_look(ring);
+    do {
+        mapping_map(&mapping, ring);
+        call_copied();
+#ifndef UNMAP_LATE
+        mapping_unmap(&mapping, ring, report.slots);
+#endif
+        report.notify = back_ring_publish(ring);
+#ifdef UNMAP_LATE
+        mapping_unmap(&mapping, ring, report.slots);
+#endif
+    } while (back_ring_next(report.answer) == BACK_SLEEP && !back_ring_may_sleep(ring));
+}
+
+static void call(void)
+{
+    if (in_steps)
+        call_in_steps();
+    else
+        call_at_once();
 }
 
 /* The guest goes to sleep while the host replies. */
@@ -103,7 +144,7 @@ static void check_replies(void)
 {
     set_up(SLOTS);
     run(call, ask_for_event, see_whether_to_sleep);
-    CHECK(answer == TOLLMEANDER_DONE);
+    CHECK(report.answer == TOLLMEANDER_DONE);
     CHECK(!guest_sleeps || report.notify);
 }
 
@@ -112,14 +153,15 @@ static void check_requests(void)
 {
     set_up(SLOTS - 1);
     run(call, publish_slot, see_whether_to_notify);
-    CHECK(answer == TOLLMEANDER_DONE || back_ring_may_sleep(answer));
-    CHECK(answer == TOLLMEANDER_DONE || guest_notified);
+    CHECK(report.answer == TOLLMEANDER_DONE || back_ring_next(report.answer) == BACK_SLEEP);
+    CHECK(report.answer == TOLLMEANDER_DONE || guest_notified);
 }
 
 static void check_both_rings(void)
 {
-    for (int i = 0; i < 2; i++) {
-        is_transmit = i == 0;
+    for (int i = 0; i < 4; i++) {
+        is_transmit = i % 2 == 0;
+        in_steps = i / 2 == 0;
         check_replies();
         check_requests();
     }

@@ -15,23 +15,31 @@ compile() {
 
 # Whether a test refuses the edited source; one that does not end is refused as well.
 refused() {
-    compile "$work/edited.c" "$work/edges.o" "$lib" -o "$work/edges"
-    timeout 3 "$work/edges" > /dev/null 2> "$work/complaint" || return 0
+    for test in $tests_of_one_end; do
+        # shellcheck disable=SC2086
+        compile "$work/edited.c" "$work/$test.o" $beside "$lib" -o "$work/$test"
+        timeout 3 "$work/$test" > /dev/null 2> "$work/complaint" || return 0
+    done
     # shellcheck disable=SC2086
-    compile -D"$macro"="\"$work/edited.c\"" "$interleave" $other_end "$lib" -o "$work/interleave"
+    compile -D"$macro"="\"$work/edited.c\"" "$interleave" $interleave_beside "$lib" \
+            -o "$work/interleave"
     timeout 3 "$work/interleave" > /dev/null 2> "$work/complaint" || return 0
     return 1
 }
 
-# Begins the edits of a source: its test of edges, its test of interleavings, the macro by which the
-# latter includes it, and the other end's object, if the latter needs that.
+# Begins the edits of a source: its tests of one end and the sources that these need beside it; its
+# test of interleavings, the macro by which that includes it, and what that needs beside it.
 edits_of() {
     source=$1
-    interleave=$3
-    macro=$4
-    other_end=${5-}
+    tests_of_one_end=$2
+    beside=$3
+    interleave=$4
+    macro=$5
+    interleave_beside=$6
     edit='none'
-    compile -c "$2" -o "$work/edges.o"
+    for test in $tests_of_one_end; do
+        compile -c "tests/host/$test.c" -o "$work/$test.o"
+    done
     cp "$source" "$work/edited.c"
     if refused; then
         echo "$source as it is fails as well"
@@ -55,24 +63,61 @@ edit() {
     fi
 }
 
-edits_of host/back_ring.c tests/host/edges.c tests/host/interleave.c BACK_RING_SOURCE
+# A program of a host that goes wrong must say so by its exit status, 1.
+must_end_with_1() {
+    status=0
+    count=$((count + 1))
+    timeout 60 "$@" > "$work/complaint" 2>&1 || status=$?
+    if [ "$status" -eq 1 ]; then
+        echo "refused: $edit: $(tail -n 1 "$work/complaint")"
+    else
+        echo "NOT REFUSED: $edit (status $status)"
+        survivors=$((survivors + 1))
+    fi
+}
+
+edit='none'
+compile -c host/back_ring.c -o "$work/back_ring.o"
+compile -c host/names.c -o "$work/names.o"
+compile -c tests/host/mapping.c -o "$work/mapping.o"
+
+edits_of host/back_ring.c 'edges steps' "$work/names.o" \
+         tests/host/interleave.c BACK_RING_SOURCE "$work/mapping.o"
 edit 'the live page is lent' 's/ring->page, sizeof ring->page,/(uint8_t *)ring->shared, 4096,/'
 edit 'slots are copied again' \
      's/^ *copy_slots(ring, req_prod);/ring->copied = ring->consumed, copy_slots(ring, req_prod);/'
-edit 'no second look' 's/return look(ring);/return false;/'
-edit 'req_event is not published' '/^        publish_event(ring);/d'
+edit 'no second look' 's/return !look(ring);/return true;/'
+edit 'req_event is not published' '/&ring->shared->word\[RING_REQ_EVENT\],/{N;d}'
 edit 'no barrier before the second look' '/Either we read the req_prod/{n;d}'
 edit 'no barrier before rsp_event' '/Either we read the rsp_event/{n;d}'
-edit 'notify is decided before rsp_prod' \
-     '/^        publish_replies(ring/{N;s/\(.*\)\n\(.*\)/\2\n\1/}'
-edit 'the notify of the report is trusted' '/report->notify = guest_waits/d'
-edit 'never notified' 's/return ring->consumed - rsp_event < slots;/return false;/'
+edit 'rsp_event is read before rsp_prod is stored' \
+     's/^    publish_replies(ring);/uint32_t old = ring->shared->word[RING_RSP_EVENT];\n&/
+      s/return guest_waits(ring, slots);/return ring->replied - old < slots;/'
+edit 'the notify of the report is trusted' '/report->notify = notify;/d; /report->notify = 0;/d'
+edit 'a notification is lost where the call is made again' 's/\*notify |= /*notify = /'
+edit 'never notified' 's/return ring->replied - rsp_event < slots;/return false;/'
 edit 'notified one late' 's/- rsp_event < slots/- rsp_event <= slots/'
 edit 'rsp_prod before the replies' \
-     '/^static void publish_replies/,/^}/s/^{/{ ring->shared->word[RING_RSP_PROD] = ring->consumed;/'
+     '/^static void publish_replies/,/^}/s/^{/{ ring->shared->word[RING_RSP_PROD] = private_word(ring->page, RING_RSP_PROD);/'
 edit 'only the first slot is replied to' \
-     's/; n != ring->consumed; n++/; n == ring->consumed - slots; n++/'
+     's/for (; ring->replied != end; ring->replied++)/for (int i = 0; i < 1; i++, ring->replied = end)/'
+edit 'only the last reply is published' \
+     's/for (; ring->replied != end; ring->replied++)/for (ring->replied = end - 1; ring->replied != end; ring->replied++)/'
 edit 'whole slots are written back' 's/first + ring->reply_words/first + ring->slot_words/'
+edit 'slots are copied over replies that wait' 's/ || unpublished(ring) > 0)$/)/'
+edit 'asleep while replies wait' '/^    if (unpublished(ring) > 0)$/{N;d}'
+edit 'references are those of the page after the call' \
+     's/return ring->reference\[.*/return private_word(ring->page, ring_slot(ring->slot_words, n) + ring->reference_word);/'
+edit 'a part of a frame is refused' \
+     's/for (uint32_t n = ring->consumed - report->slots;/for (uint32_t n = ring->consumed - 1;/'
+edit 'another frame is refused too' \
+     's/for (uint32_t n = ring->consumed - report->slots;/for (uint32_t n = ring->consumed - report->slots - 1;/'
+edit 'a refused frame is reported as done' '/report->answer = TOLLMEANDER_SPOILED;/d'
+edit 'a ring is opened twice' 's/ring->shared != NULL || //'
+edit 'a page at an odd address is taken' 's/ || (uintptr_t)shared % RING_WORD != 0//'
+edit 'a closed ring stays open' 's/^    ring->shared = NULL;/;/'
+edit 'a ring never opened is empty' '/^    if (ring->shared == NULL)$/{N;d}'
+edit 'no room goes on' 's/^    case TOLLMEANDER_SPOILED:/&\n    case TOLLMEANDER_NO_ROOM:/'
 edit 'counters compared by less-than' \
      's/if (posted <= known - ring->consumed)/if (req_prod <= known)/'
 edit 'an overflow is copied' 's/else if (posted <= TOLLMEANDER_RING_SLOTS)/else/'
@@ -81,9 +126,8 @@ edit 'any other req_prod is news' 's/return req_prod != known;/return true;/'
 edit 'req_prod is not acquired' 's/memory_order_acquire/memory_order_relaxed/'
 edit 'rsp_prod is not released' 's/memory_order_release/memory_order_relaxed/'
 
-compile -c host/back_ring.c -o "$work/back_ring.o"
-edits_of host/front_ring.c tests/host/front_edges.c tests/host/front_interleave.c \
-         FRONT_RING_SOURCE "$work/back_ring.o"
+edits_of host/front_ring.c front_edges '' \
+         tests/host/front_interleave.c FRONT_RING_SOURCE "$work/back_ring.o"
 edit 'the live page is lent' 's/ring->page, sizeof ring->page,/(uint8_t *)ring->shared, 4096,/'
 edit 'req_prod is read back from the page' \
      's/^    tollmeander_transmit_post(/set_private_word(ring->page, 0, ring->shared->word[0]);\n&/'
@@ -122,6 +166,17 @@ edit 'a refused reply counts' \
 edit 'rsp_event is not published' '/^    store(ring, RING_RSP_EVENT, ring->replies_read/d'
 edit 'no barrier before the second look' '/Either we read the rsp_prod/{n;d}'
 edit 'no second look' 's/return replies(ring) < slots;/return true;/'
+
+# A host that unmaps too late: in every order of what it and the guest do, and beside a guest that
+# runs meanwhile.
+edit='unmapped after publishing, every interleaving'
+compile -DUNMAP_LATE -DBACK_RING_SOURCE='"back_ring.c"' tests/host/interleave.c "$work/mapping.o" \
+        "$lib" -o "$work/late"
+must_end_with_1 "$work/late"
+edit='unmapped after publishing, two threads'
+compile -pthread tests/host/returned.c "$work/mapping.o" "$work/back_ring.o" "$lib" \
+        -o "$work/returned"
+must_end_with_1 "$work/returned" 100000 late
 
 echo "$count edits, $survivors not refused"
 [ "$survivors" -eq 0 ]

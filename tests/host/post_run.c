@@ -98,7 +98,7 @@ int main(int argc, char **argv)
 {
     run_open(&run, argc, argv, true);
     poster_open(&poster, &run.page, &run.pages, &run.traffic, (uint32_t)FIRST_COUNTER);
-    back_ring_open_transmit(&run.host.ring, &run.page, (uint32_t)FIRST_COUNTER);
+    back_transmit_open(&run.host.transmit, &run.page, (uint32_t)FIRST_COUNTER);
     device_open(&device, &run.traffic);
     threads_run(run_driver, run_host);
     return report_run() ? 0 : 1;

@@ -65,11 +65,10 @@ static void run_guest(void)
 /* Puts one frame, or sleeps where there are no buffers; whether it is put. */
 static bool put(const uint8_t *frame, uint32_t length)
 {
-    struct guest_memory memory = guest_pages_memory(&run.pages);
     struct tollmeander_report report;
-    uint32_t answer = back_ring_put(&run.host.ring, &memory, frame, length, &report);
+    uint32_t answer = host_put(&run.host, frame, length, &report);
 
-    if (!run_is_done(&run, &report, back_ring_may_sleep(answer)))
+    if (!run_is_done(&run, &report, host_may_sleep(answer)))
         return false;
     if (report.total != length)
         run.host.unexpected++;
@@ -105,7 +104,7 @@ int main(int argc, char **argv)
 {
     run_open(&run, argc, argv, false);
     receiver_open(&receiver, &run.page, &run.pages, &run.traffic, (uint32_t)FIRST_COUNTER);
-    back_ring_open_receive(&run.host.ring, &run.page, (uint32_t)FIRST_COUNTER);
+    back_receive_open(&run.host.receive, &run.page, (uint32_t)FIRST_COUNTER);
     threads_run(run_guest, run_host);
     return report_run() ? 0 : 1;
 }

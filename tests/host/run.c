@@ -10,14 +10,16 @@ static struct frame_pool pool;
 void run_open(struct run *run, int argc, char **argv, bool plain)
 {
     struct run_options options = run_options_read(argc, argv);
+    struct guest_memory memory;
 
     frame_pool_fill(&pool, options.seed);
     run->traffic = (struct traffic){
         .pool = &pool, .seed = options.seed, .packets = options.packets, .plain = plain
     };
     guest_pages_open(&run->pages, plain);
+    memory = guest_pages_memory(&run->pages);
     channel_open(&run->to_guest);
-    channel_open(&run->host.events);
+    host_open(&run->host, &memory, (uint32_t)FIRST_COUNTER, options.in_steps);
     run->rng = rng_of(options.seed, UINT64_MAX);
 }
 
@@ -36,11 +38,10 @@ bool run_is_done(struct run *run, const struct tollmeander_report *report, bool 
 void run_take(struct run *run, struct device *device, bool (*may_sleep)(uint32_t answer))
 {
     static uint8_t frame[TOLLMEANDER_FRAME_MAX];
-    struct guest_memory memory = guest_pages_memory(&run->pages);
 
     while (device->frames < run->traffic.packets && host_goes_on(&run->host)) {
         struct tollmeander_report report;
-        uint32_t answer = back_ring_take(&run->host.ring, &memory, frame, sizeof frame, &report);
+        uint32_t answer = host_take(&run->host, frame, sizeof frame, &report);
 
         if (run_is_done(run, &report, may_sleep(answer)))
             device_accept(device, frame, &report);

@@ -29,7 +29,7 @@ struct run {
 };
 
 /*
- * Reads the arguments PACKETS [SEED] and opens all but the two ends of the ring. The packets are
+ * Reads the arguments (run_options.h) and opens all but the two ends of the ring. The packets are
  * plain, and the transmit pages to be written, where a poster sends.
  */
 void run_open(struct run *run, int argc, char **argv, bool plain);

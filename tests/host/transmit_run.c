@@ -67,7 +67,7 @@ static void run_guest(void)
 
 static void run_host(void)
 {
-    run_take(&run, &device, back_ring_may_sleep);
+    run_take(&run, &device, host_may_sleep);
 }
 
 /* Whether all went as it must, and a line about it. */
@@ -84,7 +84,7 @@ int main(int argc, char **argv)
 {
     run_open(&run, argc, argv, false);
     sender_open(&sender, &run.page, &run.pages, &run.traffic, (uint32_t)FIRST_COUNTER);
-    back_ring_open_transmit(&run.host.ring, &run.page, (uint32_t)FIRST_COUNTER);
+    back_transmit_open(&run.host.transmit, &run.page, (uint32_t)FIRST_COUNTER);
     device_open(&device, &run.traffic);
     threads_run(run_guest, run_host);
     return report_run() ? 0 : 1;

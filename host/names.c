@@ -1,0 +1,47 @@
+#include "names.h"
+
+#include <stddef.h>
+
+#include "tollmeander.h"
+
+static const char *const answers[] = {
+    [TOLLMEANDER_DONE] = "done",
+    [TOLLMEANDER_BAD_PAGE] = "bad page",
+    [TOLLMEANDER_HALTED] = "halted",
+    [TOLLMEANDER_OVERFLOW] = "overflow",
+    [TOLLMEANDER_EMPTY] = "empty",
+    [TOLLMEANDER_MISSHAPEN] = "misshapen",
+    [TOLLMEANDER_WAITING] = "waiting",
+    [TOLLMEANDER_SPOILED] = "spoiled",
+    [TOLLMEANDER_NO_ROOM] = "no room",
+    [TOLLMEANDER_BAD_LENGTH] = "bad frame length",
+    [TOLLMEANDER_NO_BUFFERS] = "no buffers",
+    [TOLLMEANDER_NO_SLOTS] = "no slots",
+    [TOLLMEANDER_BAD_PAGES] = "bad pages",
+    [TOLLMEANDER_BAD_GSO] = "bad gso"
+};
+
+static const char *const causes[] = {
+    [0] = "none",
+    [TOLLMEANDER_CAUSE_SHORT] = "frame too short",
+    [TOLLMEANDER_CAUSE_LONG] = "reserved",
+    [TOLLMEANDER_CAUSE_SIZES] = "sizes above total",
+    [TOLLMEANDER_CAUSE_GRANT] = "page not granted",
+    [TOLLMEANDER_CAUSE_OFFSET] = "part leaves its range",
+    [TOLLMEANDER_CAUSE_GSO] = "bad gso"
+};
+
+static const char *name(const char *const *names, size_t count, uint32_t number)
+{
+    return number < count ? names[number] : "unknown";
+}
+
+const char *tollmeander_answer_name(uint32_t answer)
+{
+    return name(answers, sizeof answers / sizeof answers[0], answer);
+}
+
+const char *tollmeander_cause_name(uint32_t cause)
+{
+    return name(causes, sizeof causes / sizeof causes[0], cause);
+}

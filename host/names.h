@@ -1,0 +1,21 @@
+/* Answers and causes of tollmeander.h in words, for logs and tables. */
+#ifndef TOLLMEANDER_NAMES_H
+#define TOLLMEANDER_NAMES_H
+
+#include <stdint.h>
+
+#ifdef __cplusplus
+extern "C" {
+#endif
+
+/* "unknown" for a number that no call answers. Never null. */
+const char *tollmeander_answer_name(uint32_t answer);
+
+/* Of the cause in a report: "none" for 0, "unknown" for a number that is no cause. */
+const char *tollmeander_cause_name(uint32_t cause);
+
+#ifdef __cplusplus
+}
+#endif
+
+#endif
