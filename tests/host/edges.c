@@ -8,13 +8,12 @@
 #include <string.h>
 
 #include "back_ring.h"
+#include "back_scene.h"
 #include "check.h"
-#include "scene.h"
 #include "slot_bits.h"
 
 enum { FRAME_SIZE = 60 };
 
-static struct ring_page before;
 static struct back_transmit transmit;
 static struct back_receive receive;
 static struct tollmeander_report report;
@@ -68,25 +67,14 @@ static void write_request(uint32_t n, uint32_t id, uint32_t gref)
 
 static uint32_t take(void)
 {
-    memcpy(&before, &page, sizeof page);
+    keep_page();
     return back_transmit_take(&transmit, &granted, frame, sizeof frame, &report);
 }
 
 static uint32_t put(size_t length)
 {
-    memcpy(&before, &page, sizeof page);
+    keep_page();
     return back_receive_put(&receive, &granted, frame, length, &report);
-}
-
-/* Words of the page that the last call changed. */
-static uint32_t changed(void)
-{
-    uint32_t count = 0;
-
-    for (uint32_t at = 0; at < RING_WORDS; at++)
-        if (word(at) != atomic_load_explicit(&before.word[at], memory_order_relaxed))
-            count++;
-    return count;
 }
 
 /* A reply to a data slot is four octets; the rest of the page stays, rsp_prod apart. */
@@ -267,7 +255,7 @@ static void no_room_keeps_the_packet(void)
     open_transmit(1);
     write_data(1, GREF, 0, 77, FRAME_SIZE);
     set_word(RING_REQ_PROD, 2);
-    memcpy(&before, &page, sizeof page);
+    keep_page();
     CHECK(back_transmit_take(&transmit, &granted, frame, FRAME_SIZE - 1, &report) ==
           TOLLMEANDER_NO_ROOM);
     CHECK(back_ring_next(report.answer) == BACK_MEND);

@@ -8,14 +8,13 @@
 #include <string.h>
 
 #include "back_ring.h"
+#include "back_scene.h"
 #include "check.h"
 #include "names.h"
-#include "scene.h"
 #include "slot_bits.h"
 
 enum { FRAME_SIZE = 60, COUNTER = 254 };
 
-static struct ring_page before;
 static struct back_transmit transmit;
 static struct back_receive receive;
 static struct tollmeander_report report;
@@ -30,7 +29,7 @@ static void open_both(uint32_t counter)
     back_ring_close(&receive.ring);
     CHECK(back_transmit_open(&transmit, &page, counter));
     CHECK(back_receive_open(&receive, &page, counter));
-    memcpy(&before, &page, sizeof page);
+    keep_page();
 }
 
 static void post_packet(uint32_t n, uint32_t gref, uint32_t id)
@@ -41,7 +40,7 @@ static void post_packet(uint32_t n, uint32_t gref, uint32_t id)
     set_word(first + 1, 0);
     set_word(first + 2, id | (uint32_t)FRAME_SIZE << 16);
     set_word(RING_REQ_PROD, n + 1);
-    memcpy(&before, &page, sizeof page);
+    keep_page();
 }
 
 static void post_request(uint32_t n, uint32_t gref, uint32_t id)
@@ -51,23 +50,12 @@ static void post_request(uint32_t n, uint32_t gref, uint32_t id)
     set_word(first, id | 0xFFFF0000);
     set_word(first + 1, gref);
     set_word(RING_REQ_PROD, n + 1);
-    memcpy(&before, &page, sizeof page);
+    keep_page();
 }
 
 static uint32_t take(void)
 {
     return back_transmit_take_copied(&transmit, &granted, frame, sizeof frame, &report);
-}
-
-/* Words of the page that the host has changed since the guest's last write. */
-static uint32_t changed(void)
-{
-    uint32_t count = 0;
-
-    for (uint32_t at = 0; at < RING_WORDS; at++)
-        if (word(at) != atomic_load_explicit(&before.word[at], memory_order_relaxed))
-            count++;
-    return count;
 }
 
 /* A look and a call write nothing to the page; publishing writes the reply and rsp_prod. */
