@@ -5,7 +5,7 @@ use Rattle.transmit.specs.Take.{transmitTake}
 use Rattle.transmit.proofs.Cases.{halted-stays}
 use Rattle.receive.specs.Put.{receivePut}
 use Rattle.receive.proofs.Calls.{halted-stays as put-halted-stays}
-use Rattle.tollmeander.specs.Interface.{LentOn}
+use Rattle.interface.specs.Interface.{LentOn}
 
 pub lent-on-holds : LentOn
 unfolding LentOn

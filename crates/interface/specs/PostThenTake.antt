@@ -14,7 +14,7 @@ use Rattle.frontend.specs.declared.Gso.{Gso}
 use Rattle.frontend.specs.Post.{sizeGiven, typeGiven, slotsFor, usedRefs}
 use Rattle.frontend.specs.RoundTrip.{Refs, SameGrants, SameSlots}
 use Rattle.answer.specs.Words.{Left}
-use Rattle.tollmeander.specs.Interface.{gsoOf, TransmitLeaves, PostLeaves}
+use Rattle.interface.specs.Interface.{gsoOf, TransmitLeaves, PostLeaves}
 
 -- what is taken is what was posted: the call is done and reports the slots, the frame's length, no flag and the gso asked for; the counter
 -- is behind the packet, the ring is not halted, and the frame is in the buffer's first bytes

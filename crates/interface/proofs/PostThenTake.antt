@@ -20,8 +20,8 @@ use Rattle.frontend.specs.RoundTrip.{ComesBack, RoundTrip, FewestDone}
 use Rattle.frontend.proofs.RoundTrip.{done-few, done-requests, round-trip}
 use Rattle.frontend.proofs.Fewest.{fewest-done}
 use Rattle.answer.specs.Words.{queueOf, markAfter, reportWords, Left}
-use Rattle.tollmeander.specs.Interface.{gsoOf, TransmitLeaves}
-use Rattle.tollmeander.specs.PostThenTake.{GivesBack, PostThenTake, PostThenTakeUntouched, NoFewerSlots}
+use Rattle.interface.specs.Interface.{gsoOf, TransmitLeaves}
+use Rattle.interface.specs.PostThenTake.{GivesBack, PostThenTake, PostThenTakeUntouched, NoFewerSlots}
 
 size-small : (given size type : ℕ) → size < 65536 → sizeGiven (gsoOf given size type) < 65536
 unfolding gsoOf
