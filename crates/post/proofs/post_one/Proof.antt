@@ -1,10 +1,14 @@
 -- `post_one` meets its contract: the one page, or that there is none, is what is found of the list; each way out is then one law of `Calls`.
 use borrow.Author.Needs.{needs}
 use native.Mathlib.Omega.{arith}
-use mathlib.Core.Path.{refl, sym, _∙_}
-use mathlib.Core.List.{[]}
-use Prim.Native.Nat.{_≤_}
-use lib.ListN.{length}
+use mathlib.Core.Path.{_≡_, refl, sym, _∙_}
+use mathlib.Core.Bool.{false}
+use mathlib.Core.List.{List, [], _∷_}
+use Prim.Native.Nat.{ℕ, _≤_}
+use lib.ListN.{length, getD}
+use Rattle.grant.specs.Lookup.{writePage}
+use Rattle.grant.specs.declared.Page.the-variants as found
+use Rattle.frontend.specs.Stages.{PagesTested}
 use Rattle.receive.proofs.Calls.{one-piece}
 use Rattle.frontend.proofs.Shape.{few-extras}
 use Rattle.frontend.proofs.Naming.{sorted-short, one-unfit, one-fit, one-page}
@@ -12,12 +16,48 @@ use Rattle.frontend.proofs.Calls.{frame-counts, one-scattered, posts-bad-pages,
 use Rattle.post.proofs.post_one.Statement.{statement}
 use Rattle.post.proofs.post_one.Tie as tie
 
+-- ---- what the call was lent
+
+module _ (s : tie.Start) where
+  abbrev table : List ℕ
+  table = s .args .grants .now
+
+  abbrev window : List ℕ
+  window = s .args .window .now
+
+  abbrev refs : List ℕ
+  refs = s .args .references .now
+
+  abbrev page : List ℕ
+  page = s .args .ring .now
+
+  abbrev frame : List ℕ
+  frame = s .args .frame .now
+
+-- ---- where the one page is known, and the free slots counted
+
+module _ (f : tie.After-free) where
+  abbrev start : tie.Start
+  start = f .before .before .before .before .before .before .before .before .before .before .before .before .before .before .before
+
+  some : 1 ≤ length (refs start)
+  some = omega (arith, f .before .before .before .before .before .before .before .before .before .if1 .left)
+
+  abbrev at : ℕ
+  at = f .before .before .before .before .page .given .0 .0
+
+  fit : found.Fit at ≡ writePage (table start) (window start) (getD (refs start) 0 0)
+  fit = rw (f .before .before .before .before .page .given .1) at (f .before .before .before .before .before .before .fit-to-write .ensures)
+
+  tested : PagesTested (table start) (window start) (refs start) 1 (at ∷ []) false
+  tested = one-fit (table start) (window start) (refs start) some at fit
+
+-- ---- what is asked
+
 returns : tie.Need-returns
 returns c =
-    let start = c .before .before .before .before .before .before in
-    let a = start .args in
-    let p = start .pre in
-    posts-bad-pages (a .grants .now) (a .ring .now) (a .window .now) (a .read) (a .gso) (a .references .now) (a .frame .now) (p .0) (p .1) (p .2) 1 (sym (p .3)) _ _ (sorted-short (a .grants .now) (a .window .now) (a .references .now) 1 (omega (arith, c .if1 .taken)) []) refl
+    let s = c .before .before .before .before .before .before in
+    posts-bad-pages (table s) (page s) (window s) (s .args .read) (s .args .gso) (refs s) (frame s) (s .pre .0) (s .pre .1) (s .pre .2) 1 (sym (s .pre .3)) _ _ (sorted-short (table s) (window s) (refs s) 1 (omega (arith, c .if1 .taken)) []) refl
 
 shared-slice-read-fit-to-write : tie.Need-shared-slice-read-fit-to-write
 shared-slice-read-fit-to-write c = search needs
@@ -36,11 +76,9 @@ same-length c = search needs
 
 returns-2 : tie.Need-returns-2
 returns-2 c =
-    let start = c .before .before .before .before .before .before .before .before .before .before .before in
-    let a = start .args in
-    let p = start .pre in
-    let fit = rw (c .enum-told .given .1) at (c .before .before .fit-to-write .ensures) in
-    posts-bad-pages (a .grants .now) (a .ring .now) (a .window .now) (a .read) (a .gso) (a .references .now) (a .frame .now) (p .0) (p .1) (p .2) 1 (sym (p .3)) _ _ (one-unfit (a .grants .now) (a .window .now) (a .references .now) (omega (arith, c .before .before .before .before .before .if1 .left)) fit) refl
+    let s = c .before .before .before .before .before .before .before .before .before .before .before in
+    let unfit = rw (c .enum-told .given .1) at (c .before .before .fit-to-write .ensures) in
+    posts-bad-pages (table s) (page s) (window s) (s .args .read) (s .args .gso) (refs s) (frame s) (s .pre .0) (s .pre .1) (s .pre .2) 1 (sym (s .pre .3)) _ _ (one-unfit (table s) (window s) (refs s) (omega (arith, c .before .before .before .before .before .if1 .left)) unfit) refl
 
 extras-of-requires : tie.Need-extras-of-requires
 extras-of-requires c κs = search needs
@@ -59,29 +97,22 @@ same-length-3 c = search needs
 
 returns-3 : tie.Need-returns-3
 returns-3 c =
-    let start = c .before .before .before .before .before .before .before .before .before .before .before .before .before .before .before .before in
-    let a = start .args in
-    let p = start .pre in
-    let fit = rw (c .before .before .before .before .before .page .given .1) at (c .before .before .before .before .before .before .before .fit-to-write .ensures) in
-    let some : 1 ≤ length (a .references .now) = omega (arith, c .before .before .before .before .before .before .before .before .before .before .if1 .left) in
-    posts-no-slots (a .grants .now) (a .ring .now) (a .window .now) (a .read) (a .gso) (a .references .now) (a .frame .now) (p .0) (p .1) (p .2) 1 (sym (p .3)) _ _ (one-fit (a .grants .now) (a .window .now) (a .references .now) some _ fit) refl _ _ (c .before .before .before .extras-of .ensures) (c .before .free .ensures) (c .if2 .taken)
+    let f = c .before in
+    let s = start f in
+    posts-no-slots (table s) (page s) (window s) (s .args .read) (s .args .gso) (refs s) (frame s) (s .pre .0) (s .pre .1) (s .pre .2) 1 (sym (s .pre .3)) _ _ (tested f) refl _ _ (f .before .before .extras-of .ensures) (f .free .ensures) (omega (arith, c .if2 .taken))
 
 write-requires : tie.Need-write-requires
 write-requires c κs =
-    let start = c .before .before .before .before .before .before .before .before .before .before .before .before .before .before .before .before .before in
-    let a = start .args in
-    let p = start .pre in
-    let fit = rw (c .before .before .before .before .before .before .page .given .1) at (c .before .before .before .before .before .before .before .before .fit-to-write .ensures) in
-    let some : 1 ≤ length (a .references .now) = omega (arith, c .before .before .before .before .before .before .before .before .before .before .before .if1 .left) in
-    (one-page (a .grants .now) (a .window .now) (a .references .now) some _ fit, one-piece (length (a .frame .now)) (p .3))
+    let f = c .before .before in
+    let s = start f in
+    (one-page (table s) (window s) (refs s) (some f) (at f) (fit f), one-piece (length (frame s)) (s .pre .3))
 
 put-packet-requires : tie.Need-put-packet-requires
 put-packet-requires c κs =
-    let start = c .before .before .before .before .before .before .before .before .before .before .before .before .before .before .before .before .before .before .before .before .before in
-    let a = start .args in
-    let p = start .pre in
-    let k = frame-counts (length (a .frame .now)) 1 (p .1) (sym (p .3)) in
-    (p .0, omega arith, omega arith, omega (arith, c .before .before .before .before .before .before .before .before .before .before .before .before .before .before .before .if1 .left), k .small, k .under)
+    let f = c .before .before .before .before .before .before in
+    let s = start f in
+    let k = frame-counts (length (frame s)) 1 (s .pre .1) (sym (s .pre .3)) in
+    (s .pre .0, omega arith, omega arith, some f, k .small, k .under)
 
 same-length-4 : tie.Need-same-length-4
 same-length-4 c = search needs
@@ -91,13 +122,10 @@ same-length-5 c = search needs
 
 returns-4 : tie.Need-returns-4
 returns-4 c =
-    let start = c .before .before .before .before .before .before .before .before .before .before .before .before .before .before .before .before .before .before .before .before .before .before .before .before in
-    let a = start .args in
-    let p = start .pre in
-    let fit = rw (c .before .before .before .before .before .before .before .before .before .before .before .before .before .page .given .1) at (c .before .before .before .before .before .before .before .before .before .before .before .before .before .before .before .fit-to-write .ensures) in
-    let some : 1 ≤ length (a .references .now) = omega (arith, c .before .before .before .before .before .before .before .before .before .before .before .before .before .before .before .before .before .before .if1 .left) in
-    let written = c .before .before .before .before .before .before .write .ensures ∙ one-scattered (a .window .now) (a .frame .now) _ (p .3) in
-    posts-posted (a .grants .now) (a .ring .now) (a .window .now) (a .read) (a .gso) (a .references .now) (a .frame .now) (p .0) (p .1) (p .2) 1 (sym (p .3)) _ _ (one-fit (a .grants .now) (a .window .now) (a .references .now) some _ fit) refl _ _ (c .before .before .before .before .before .before .before .before .before .before .before .extras-of .ensures) (c .before .before .before .before .before .before .before .before .before .free .ensures) (c .before .before .before .before .before .before .before .before .if2 .left) _ _ _ written (c .before .before .put-packet .ensures)
+    let f = c .before .before .before .before .before .before .before .before .before in
+    let s = start f in
+    posts-posted (table s) (page s) (window s) (s .args .read) (s .args .gso) (refs s) (frame s) (s .pre .0) (s .pre .1) (s .pre .2) 1 (sym (s .pre .3)) _ _ (tested f) refl _ _ (f .before .before .extras-of .ensures) (f .free .ensures) (omega (arith, c .before .before .before .before .before .before .before .before .if2 .left)) _ _ _
+    (c .before .before .before .before .before .before .write .ensures ∙ one-scattered (window s) (frame s) (at f) (s .pre .3)) (c .before .before .put-packet .ensures)
 
 pub post-one-spec : {M : Type 1} → statement M
 post-one-spec =
