@@ -35,7 +35,7 @@ fn put_running(
         return answer::ask(Answer::NoBuffers, first, ring);
     }
     if count == 1 {
-        return delivering::settle_one(grants, window, ring, first, frame);
+        return one_piece::settle_one(grants, window, ring, first, frame);
     }
     delivering::settle(grants, window, ring, first, count, frame)
 }

@@ -3,8 +3,8 @@ use mathlib.Core.List.{List}
 use Prim.Native.Nat.{ℕ}
 use borrow.Author.Needs.{needs}
 use Rattle.receive.proofs.Calls.{one-unfit, one-page, one-fit}
-use Rattle.delivering.proofs.settle_one.Statement.{statement}
-use Rattle.delivering.proofs.settle_one.Tie as tie
+use Rattle.one_piece.proofs.settle_one.Statement.{statement}
+use Rattle.one_piece.proofs.settle_one.Tie as tie
 
 -- ---- where the page that the request names was looked up
 

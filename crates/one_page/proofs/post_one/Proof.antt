@@ -13,8 +13,8 @@ use Rattle.receive.proofs.Calls.{one-piece}
 use Rattle.frontend.proofs.Shape.{few-extras}
 use Rattle.frontend.proofs.Naming.{sorted-short, one-unfit, one-fit, one-page}
 use Rattle.frontend.proofs.Calls.{frame-counts, one-scattered, posts-bad-pages, posts-no-slots, posts-posted}
-use Rattle.post.proofs.post_one.Statement.{statement}
-use Rattle.post.proofs.post_one.Tie as tie
+use Rattle.one_page.proofs.post_one.Statement.{statement}
+use Rattle.one_page.proofs.post_one.Tie as tie
 
 -- ---- what the call was lent
 

@@ -1,8 +1,8 @@
 -- `deliver_one` meets its contract: page, reply, then rsp_prod behind it, are what the definition consumes (`one-delivered`).
 use borrow.Author.Needs.{needs}
 use Rattle.receive.proofs.Calls.{one-delivered}
-use Rattle.delivering.proofs.deliver_one.Statement.{statement}
-use Rattle.delivering.proofs.deliver_one.Tie as tie
+use Rattle.one_piece.proofs.deliver_one.Statement.{statement}
+use Rattle.one_piece.proofs.deliver_one.Tie as tie
 
 write-requires : tie.Need-write-requires
 write-requires c κs = search needs
