@@ -1,12 +1,12 @@
--- `replay::checksum::of_first` meets its contract: it hands over a prefix, or all where the prefix is all.
+-- `of_first` meets its contract: it hands over a prefix, or all where the prefix is all.
 use mathlib.Core.Path.{sym, ap, _∙_}
 use native.Mathlib.Omega.{arith}
 use lib.Seq.{take-all}
 use borrow.Author.Needs.{needs}
 use Rattle.io.proofs.Counting.{front}
-use Rattle.replay.specs.Fnv.{checksum}
-use Rattle.replay.proofs.checksum.of_first.Statement.{statement}
-use Rattle.replay.proofs.checksum.of_first.Tie as tie
+use Rattle.lines.specs.Fnv.{checksum}
+use Rattle.lines.proofs.checksum.of_first.Statement.{statement}
+use Rattle.lines.proofs.checksum.of_first.Tie as tie
 
 slice-aggregate-of : tie.Need-slice-aggregate-of
 slice-aggregate-of c = front _ _ (omega arith)

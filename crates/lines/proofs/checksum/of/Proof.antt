@@ -1,4 +1,4 @@
--- `replay::checksum::of` meets its contract. The invariant: the steps through the bytes that are left lead from the hash to the checksum.
+-- `of` meets its contract. The invariant: the steps through the bytes that are left lead from the hash to the checksum.
 use mathlib.Core.Path.{_≡_, refl, sym, ap, _∙_}
 use mathlib.Core.List.{List}
 use Prim.Native.Nat.{ℕ, _+_, _-_, _≤_, _<_}
@@ -7,9 +7,9 @@ use native.Mathlib.Omega.{arith}
 use lib.ListN.{length, drop, getD, drop-of-length-le}
 use lib.Seq.{drop-cons}
 use borrow.Author.Needs.{needs}
-use Rattle.replay.specs.Fnv.{step, steps, checksum}
-use Rattle.replay.proofs.checksum.of.Statement.{statement}
-use Rattle.replay.proofs.checksum.of.Tie as tie
+use Rattle.lines.specs.Fnv.{step, steps, checksum}
+use Rattle.lines.proofs.checksum.of.Statement.{statement}
+use Rattle.lines.proofs.checksum.of.Tie as tie
 
 one-more : (l : List ℕ) (hash i : ℕ) → i < length l → steps hash (drop i l) ≡ steps (step hash (getD l i 0)) (drop (i + 1) l)
 one-more l hash i h = rw (add-one, drop-cons l i 0)

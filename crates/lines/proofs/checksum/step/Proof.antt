@@ -1,13 +1,13 @@
--- `replay::checksum::step` meets its contract: of two numbers below 2 ^ 32 the exclusive or is below 2 ^ 32 too, so the product fits.
+-- `step` meets its contract: of two numbers below 2 ^ 32 the exclusive or is below 2 ^ 32 too, so the product fits.
 use Prim.Native.Nat.{_<_, _^_}
 use native.Mathlib.Omega.{arith}
 use lib.Bits.{bitXor, xor-lt}
 use borrow.Author.Needs.{needs}
-use Rattle.replay.specs.Fnv.{step}
-use Rattle.replay.proofs.checksum.step.Statement.{statement}
-use Rattle.replay.proofs.checksum.step.Tie as tie
-use Rattle.replay.proofs.checksum.step.Reads as reads
-use Rattle.replay.proofs.checksum.step.Lts as lts
+use Rattle.lines.specs.Fnv.{step}
+use Rattle.lines.proofs.checksum.step.Statement.{statement}
+use Rattle.lines.proofs.checksum.step.Tie as tie
+use Rattle.lines.proofs.checksum.step.Reads as reads
+use Rattle.lines.proofs.checksum.step.Lts as lts
 
 mixed-small : (c : lts.Start reads.Pre reads.Post) → bitXor (c .args .hash) (c .args .byte) < 2 ^ 32
 mixed-small c = xor-lt 32 (c .args .hash) (c .args .byte) (omega arith) (omega arith)

@@ -1,7 +1,7 @@
 // FNV-1a in 32 bits.
 ghost use mathlib.Core.Path.{_≡_};
 ghost use lib.ListN.{take};
-ghost use Rattle.replay.specs.Fnv.{step, checksum};
+ghost use Rattle.lines.specs.Fnv.{step, checksum};
 
 const START: u32 = 2166136261;
 
