@@ -75,13 +75,13 @@ pub fn post(
     if !ring::is_page(ring) {
         return Answer::BadPage;
     }
-    if pieces::bad_length(frame.len()) {
+    if lengths::bad_length(frame.len()) {
         return Answer::BadLength;
     }
     if bad_gso(gso) {
         return Answer::BadGso;
     }
-    let count = pieces::needed(frame.len());
+    let count = lengths::needed(frame.len());
     if count == 1 {
         return one_page::post_one(read, gso, grants, window, references, ring, frame);
     }

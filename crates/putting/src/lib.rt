@@ -30,7 +30,7 @@ fn put_running(
     if Request::COUNT < posted {
         return answer::halt(Answer::Overflow, first);
     }
-    let count = pieces::needed(frame.len());
+    let count = lengths::needed(frame.len());
     if posted < count {
         return answer::ask(Answer::NoBuffers, first, ring);
     }
@@ -50,7 +50,7 @@ pub fn put(queue: Queue, grants: &[u8], window: &mut [u8], ring: &mut [u8], fram
     if !ring::is_page(ring) {
         return answer::keep(Answer::BadPage, queue);
     }
-    if pieces::bad_length(frame.len()) {
+    if lengths::bad_length(frame.len()) {
         return answer::keep(Answer::BadLength, queue);
     }
     if queue.halted {

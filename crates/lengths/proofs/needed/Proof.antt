@@ -1,8 +1,8 @@
 -- `needed` meets its contract: the code computes what the definition says.
 use borrow.Author.Needs.{needs}
 use Rattle.receive.specs.Put.{needed}
-use Rattle.pieces.proofs.needed.Statement.{statement}
-use Rattle.pieces.proofs.needed.Tie as tie
+use Rattle.lengths.proofs.needed.Statement.{statement}
+use Rattle.lengths.proofs.needed.Tie as tie
 
 sub-result : tie.Need-sub-result
 sub-result c = search needs

@@ -1,8 +1,8 @@
 -- `piece_of` meets its contract: the lesser of a page and what is left of the frame.
 use borrow.Author.Needs.{needs}
 use native.Mathlib.Omega.{arith}
-use Rattle.pieces.proofs.piece_of.Statement.{statement}
-use Rattle.pieces.proofs.piece_of.Tie as tie
+use Rattle.lengths.proofs.piece_of.Statement.{statement}
+use Rattle.lengths.proofs.piece_of.Tie as tie
 
 mul-left : tie.Need-mul-left
 mul-left c = search needs

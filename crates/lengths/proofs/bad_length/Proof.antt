@@ -6,8 +6,8 @@ use native.Mathlib.Omega.{arith}
 use lib.Dec.{ltb}
 use borrow.Author.Tests.{lt-ltb, le-ltb}
 use Rattle.receive.specs.Put.{badLength}
-use Rattle.pieces.proofs.bad_length.Statement.{statement}
-use Rattle.pieces.proofs.bad_length.Tie as tie
+use Rattle.lengths.proofs.bad_length.Statement.{statement}
+use Rattle.lengths.proofs.bad_length.Tie as tie
 
 short : (size : ℕ) → size < 14 → true ≡ badLength size
 unfolding badLength
