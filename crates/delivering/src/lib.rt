@@ -1,15 +1,15 @@
 // The requests that a frame needs: judged, and then refused, or given the frame's pieces and replied to.
 ghost use mathlib.Core.Path.{_≡_};
 ghost use mathlib.Core.Bool.{false};
-ghost use Prim.Native.Nat.{_+_, _-_, _*_, _≤_, ℕ};
-ghost use mathlib.Core.List.{List, [], _∷_};
+ghost use Prim.Native.Nat.{_≤_, ℕ};
+ghost use mathlib.Core.List.{List};
 ghost use lib.ListN.{length, take};
 ghost use Rattle.ring.specs.Ring.{pageSize};
 ghost use Rattle.netif.specs.Slot.{receiveSlots};
 ghost use Rattle.grant.specs.Lookup.{writePage};
 ghost use Rattle.answer.specs.Report.{plainSummary};
 ghost use Rattle.answer.specs.Effect.{Gives};
-ghost use Rattle.receive.specs.Put.{pieceSize, needed, scatter, refuse, deliver, settle};
+ghost use Rattle.receive.specs.Put.{needed, scatter, refuse, deliver, settle};
 ghost use Rattle.receive.specs.Stages.{AllUsable, Judged};
 use answer::Outcome;
 use answer::Summary;
@@ -18,10 +18,10 @@ use grant::Page;
 use netif::Request;
 
 // The cause of a request whose grant is not fit.
-const UNFIT: u8 = 4;
+pub const UNFIT: u8 = 4;
 
 // The page that a request names, if its grant is fit to be written.
-fn page_of(grants: &[u8], window: &[u8], request: Request) -> Page
+pub fn page_of(grants: &[u8], window: &[u8], request: Request) -> Page
     ensures { λ r. ⌜ r ≡ writePage (now (grants .entry)) (now (window .entry)) (request .gref) ⌝ }
 {
     grant::fit_to_write(grants, window, request.gref)
@@ -58,7 +58,7 @@ fn judge(
 }
 
 // Consumes requests of which one is unfit: each gets an error. The window is not lent, so it stays.
-fn refuse(ring: &mut [u8], old: u32, count: u32, cause: u8, place: u32) -> Outcome
+pub fn refuse(ring: &mut [u8], old: u32, count: u32, cause: u8, place: u32) -> Outcome
     requires { ⌜ (length (now ring) ≡ pageSize) × (count ≤ 16) ⌝ }
     ensures { λ r. ⌜
         ((window : List ℕ) → Gives (refuse old (now (ring .entry)) window (receiveSlots (now (ring .entry)) old count) cause place) r
@@ -69,7 +69,7 @@ fn refuse(ring: &mut [u8], old: u32, count: u32, cause: u8, place: u32) -> Outco
 }
 
 // What is said of a frame of so many bytes in so many pieces.
-fn summary_of(slots: u32, total: u32) -> Summary
+pub fn summary_of(slots: u32, total: u32) -> Summary
     ensures { λ r. ⌜ r ≡ plainSummary slots total ⌝ }
 {
     Summary {
@@ -105,42 +105,6 @@ fn deliver(
     pieces::scatter(window, pages, count as usize, frame);
     pieces::reply_pieces(ring, old, count, frame);
     answer::finish(ring, old, summary_of(count, frame.len() as u32))
-}
-
-// Consumes one request that is fit: its page gets the frame, which is one piece.
-fn deliver_one(window: &mut [u8], ring: &mut [u8], old: u32, page: u32, frame: &[u8]) -> Outcome
-    requires { ⌜
-        (length (now ring) ≡ pageSize)
-        × (length (now frame) ≤ pieceSize)
-        × (4096 * page + 4096 ≤ length (now window)) ⌝ }
-    ensures { λ r. ⌜
-        Gives
-        (deliver old (now (ring .entry)) (now (window .entry)) (receiveSlots (now (ring .entry)) old 1) (page ∷ []) (now (frame .entry)))
-        r (now (ring .exit)) (now (window .exit)) ⌝ }
-{
-    grant::write(window, page, frame);
-    pieces::reply(ring, old, 0, frame.len() as u16);
-    answer::finish(ring, old, summary_of(1, frame.len() as u32))
-}
-
-// Consumes the one request that a frame of one piece needs, with no loop and no table.
-pub fn settle_one(
-    grants: &[u8],
-    window: &mut [u8],
-    ring: &mut [u8],
-    old: u32,
-    frame: &[u8],
-) -> Outcome
-    requires { ⌜ (length (now ring) ≡ pageSize) × (length (now frame) ≤ pieceSize) ⌝ }
-    ensures { λ r. ⌜
-        Gives
-        (settle (now (grants .entry)) old (now (ring .entry)) (now (window .entry)) (receiveSlots (now (ring .entry)) old 1) (now (frame .entry)))
-        r (now (ring .exit)) (now (window .exit)) ⌝ }
-{
-    match page_of(grants, window, Request::at(ring, old)) {
-        Page::Unfit => refuse(ring, old, 1, UNFIT, 0),
-        Page::Fit(page) => deliver_one(window, ring, old, page, frame),
-    }
 }
 
 // Consumes the requests that a frame needs. All of them are tested before anything is written.

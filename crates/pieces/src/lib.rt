@@ -1,19 +1,14 @@
-// A frame in pieces: how many it has, where they are written, and the replies to the requests that got them.
+// A frame in pieces: where they are written, and the replies to the requests that got them.
 ghost use mathlib.Core.Path.{_≡_};
-ghost use Prim.Native.Nat.{_+_, _-_, _*_, _≤_, min};
+ghost use Prim.Native.Nat.{_+_, _*_, _≤_};
 ghost use lib.ListN.{length, take};
 ghost use Rattle.words.specs.Word.{splice};
 ghost use Rattle.ring.specs.Ring.{pageSize, slotPlace, withSlots};
 ghost use Rattle.netif.specs.Slot.{requestWidth, requestCount, requestIdent, receiveReply, receiveSlot, receiveSlots};
-ghost use Rattle.receive.specs.Put.{pieceSize, badLength, needed, replyFlags, scatter, pieceReplies, errorReplies};
+ghost use Rattle.receive.specs.Put.{pieceSize, replyFlags, scatter, pieceReplies, errorReplies};
 ghost use Rattle.receive.specs.Stages.{AllUsable};
+use lengths::PIECE;
 use netif::Request;
-
-const SHORTEST: usize = 14;
-
-const LONGEST: usize = 65535;
-
-const PIECE: usize = 4096;
 
 // The pieces of the longest frame.
 pub const MOST: usize = 16;
@@ -24,30 +19,6 @@ const FLAGS: usize = 4;
 const MORE: u16 = 4;
 
 const ERROR: u16 = 65535;
-
-// Whether a length is none that a frame may have.
-pub fn bad_length(size: usize) -> bool
-    ensures { λ r. ⌜ r ≡ badLength size ⌝ }
-{
-    size < SHORTEST || LONGEST < size
-}
-
-// The requests that a frame needs: one for each piece.
-pub fn needed(size: usize) -> u32
-    requires { ⌜ size ≤ 65535 ⌝ }
-    ensures { λ r. ⌜ r ≡ needed size ⌝ }
-{
-    ((size + (PIECE - 1)) / PIECE) as u32
-}
-
-// The length of piece i of a frame.
-pub fn piece_of(size: usize, i: usize) -> usize
-    requires { ⌜ pieceSize * i ≤ size ⌝ }
-    ensures { λ r. ⌜ r ≡ min pieceSize (size - pieceSize * i) ⌝ }
-{
-    let left = size - PIECE * i;
-    if left < PIECE { left } else { PIECE }
-}
 
 // Writes the pieces of a frame to the pages of the table, in order. All but the last are whole pages: of these the compiler knows the
 // length.
@@ -103,7 +74,7 @@ pub fn reply_pieces(ring: &mut [u8], first: u32, count: u32, frame: &[u8])
 {
     let mut i: u32 = 0;
     while i < count {
-        let status = piece_of(frame.len(), i as usize) as u16;
+        let status = lengths::piece_of(frame.len(), i as usize) as u16;
         reply(
             ring,
             ring::ahead(first, i),

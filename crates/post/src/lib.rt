@@ -9,7 +9,6 @@ ghost use Rattle.frontend.specs.Stages.{Posts};
 use answer::Verdict;
 use frontend::Answer;
 use frontend::Gso;
-use grant::Page;
 
 // Whether cause 6 would refuse it.
 fn bad_gso(gso: Gso) -> bool
@@ -22,41 +21,6 @@ fn bad_gso(gso: Gso) -> bool
             Verdict::Bad { cause, place } => true,
         },
     }
-}
-
-// Posts a frame of one page, with no loop and no table.
-fn post_one(
-    read: u32,
-    gso: Gso,
-    grants: &[u8],
-    window: &mut [u8],
-    references: &[u32],
-    ring: &mut [u8],
-    frame: &[u8],
-) -> Answer
-    requires { ⌜
-        (length (now ring) ≡ pageSize)
-        × (badLength (length (now frame)) ≡ false)
-        × (badGso gso ≡ false)
-        × (needed (length (now frame)) ≡ 1) ⌝ }
-    ensures { λ r. ⌜
-        Posts
-        (post (now (grants .entry)) (now (ring .entry)) (now (window .entry)) read gso (now (references .entry)) (now (frame .entry)))
-        r (now (ring .exit)) (now (window .exit)) ⌝ }
-{
-    if references.len() == 0 {
-        return Answer::BadPages;
-    }
-    let Page::Fit(page) = grant::fit_to_write(grants, window, references[0]) else {
-        return Answer::BadPages;
-    };
-    let slots = 1 + posting::extras_of(gso);
-    if posting::free(ring, read) < slots {
-        return Answer::NoSlots;
-    }
-    grant::write(window, page, frame);
-    let notify = posting::put_packet(ring, gso, references, 1, frame);
-    Answer::Posted { slots, notify }
 }
 
 // Posts a frame of so many pages. All references are tested before anything is written.
@@ -111,15 +75,15 @@ pub fn post(
     if !ring::is_page(ring) {
         return Answer::BadPage;
     }
-    if pieces::bad_length(frame.len()) {
+    if lengths::bad_length(frame.len()) {
         return Answer::BadLength;
     }
     if bad_gso(gso) {
         return Answer::BadGso;
     }
-    let count = pieces::needed(frame.len());
+    let count = lengths::needed(frame.len());
     if count == 1 {
-        return post_one(read, gso, grants, window, references, ring, frame);
+        return one_page::post_one(read, gso, grants, window, references, ring, frame);
     }
     post_pages(read, gso, grants, window, references, count, ring, frame)
 }

@@ -1,39 +1,14 @@
 // The slots of a packet, as they are written to the ring.
 ghost use mathlib.Core.Path.{_≡_};
-ghost use mathlib.Core.Bool.{false};
 ghost use Prim.Native.Nat.{_+_, _*_, _≤_};
 ghost use lib.ListN.{length, take, drop};
-ghost use Rattle.words.specs.Word.{splice};
-ghost use Rattle.ring.specs.Ring.{pageSize, slotPlace, withSlots};
+ghost use Rattle.ring.specs.Ring.{pageSize, withSlots};
 ghost use Rattle.netif.specs.Slot.{slotWidth, slotCount};
-ghost use Rattle.netif.specs.Encode.{extraBytes};
-ghost use Rattle.frontend.specs.Post.{gsoExtras, flagsFor, dataFor, laterFor, extrasFor, freeSlots};
+ghost use Rattle.frontend.specs.Post.{gsoExtras, laterFor, extrasFor, freeSlots};
 ghost use Rattle.frontend.specs.Stages.{WithPacket};
 use frontend::Gso;
 use netif::DataSlot;
-use netif::Extra;
 use ring::Side;
-
-// The extra's own type.
-const GSO: u16 = 1;
-
-// Flags of a data slot: more data follows, an extra follows.
-const MORE: u16 = 4;
-
-const EXTRA: u16 = 8;
-
-// Where a data slot has its offset, with its flags behind, and its id, with its size behind.
-const OFFSET: usize = 4;
-
-const ID: usize = 8;
-
-// An id is a counter by this number.
-const IDS: u32 = 65536;
-
-// Where an extra has its gso type, with pad and features behind, and its unused bytes.
-const GSO_TYPE: usize = 4;
-
-const UNUSED: usize = 8;
 
 // The slots that are free, by the driver's count of replies read.
 pub fn free(ring: &[u8], read: u32) -> u32
@@ -46,41 +21,6 @@ pub fn free(ring: &[u8], read: u32) -> u32
     } else {
         DataSlot::COUNT - used
     }
-}
-
-// The flags of a data slot.
-fn flags(more: bool, extra: bool) -> u16
-    ensures { λ r. ⌜ r ≡ flagsFor more extra ⌝ }
-{
-    if more {
-        if extra { MORE + EXTRA } else { MORE }
-    } else {
-        if extra { EXTRA } else { 0 }
-    }
-}
-
-// Writes a data slot at a counter.
-fn put_data(ring: &mut [u8], n: u32, gref: u32, flags: u16, size: u16)
-    requires { ⌜ length (now ring) ≡ pageSize ⌝ }
-    ensures { λ _. ⌜ now (ring .exit) ≡ splice (now (ring .entry)) (slotPlace slotWidth slotCount n) (dataFor n gref flags size) ⌝ }
-{
-    let at = ring::place(DataSlot::WIDTH, DataSlot::COUNT, n);
-    words::put_u32(ring, at, gref);
-    words::put_pair(ring, at + OFFSET, 0, flags);
-    words::put_pair(ring, at + ID, (n % IDS) as u16, size);
-}
-
-// Writes an extra at a counter.
-fn put_extra(ring: &mut [u8], n: u32, size: u16, kind: u8)
-    requires { ⌜ length (now ring) ≡ pageSize ⌝ }
-    ensures { λ _. ⌜
-        now (ring .exit) ≡ splice (now (ring .entry)) (slotPlace slotWidth slotCount n)
-        (extraBytes (record { kind = 1; flags = 0; «gso_size» = size; «gso_type» = kind })) ⌝ }
-{
-    let at = ring::place(Extra::WIDTH, Extra::COUNT, n);
-    words::put_pair(ring, at, GSO, size);
-    words::put_u32(ring, at + GSO_TYPE, kind as u32);
-    words::put_u32(ring, at + UNUSED, 0);
 }
 
 // Writes the data slots behind the first, from a counter on: one for each further piece of the frame.
@@ -97,12 +37,12 @@ fn put_later(ring: &mut [u8], first: u32, references: &[u32], count: u32, frame:
 {
     let mut i: u32 = 1;
     while i < count {
-        let size = pieces::piece_of(frame.len(), i as usize) as u16;
-        put_data(
+        let size = lengths::piece_of(frame.len(), i as usize) as u16;
+        slots::put_data(
             ring,
             ring::ahead(first, i - 1),
             references[i as usize],
-            flags(i + 1 < count, false),
+            slots::flags(i + 1 < count, false),
             size,
         );
         i += 1;
@@ -116,7 +56,7 @@ fn put_extras(ring: &mut [u8], n: u32, gso: Gso)
 {
     match gso {
         Gso::Absent => {}
-        Gso::Given { size, kind } => put_extra(ring, n, size, kind),
+        Gso::Given { size, kind } => slots::put_extra(ring, n, size, kind),
     }
 }
 
@@ -134,11 +74,11 @@ pub fn put_packet(ring: &mut [u8], gso: Gso, references: &[u32], count: u32, fra
 {
     let old = ring::requests(ring);
     let extras = extras_of(gso);
-    put_data(
+    slots::put_data(
         ring,
         old,
         references[0],
-        flags(1 < count, 0 < extras),
+        slots::flags(1 < count, 0 < extras),
         frame.len() as u16,
     );
     put_extras(ring, ring::ahead(old, 1), gso);

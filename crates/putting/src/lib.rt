@@ -30,12 +30,12 @@ fn put_running(
     if Request::COUNT < posted {
         return answer::halt(Answer::Overflow, first);
     }
-    let count = pieces::needed(frame.len());
+    let count = lengths::needed(frame.len());
     if posted < count {
         return answer::ask(Answer::NoBuffers, first, ring);
     }
     if count == 1 {
-        return delivering::settle_one(grants, window, ring, first, frame);
+        return one_piece::settle_one(grants, window, ring, first, frame);
     }
     delivering::settle(grants, window, ring, first, count, frame)
 }
@@ -50,7 +50,7 @@ pub fn put(queue: Queue, grants: &[u8], window: &mut [u8], ring: &mut [u8], fram
     if !ring::is_page(ring) {
         return answer::keep(Answer::BadPage, queue);
     }
-    if pieces::bad_length(frame.len()) {
+    if lengths::bad_length(frame.len()) {
         return answer::keep(Answer::BadLength, queue);
     }
     if queue.halted {

@@ -1,1 +1,1 @@
-// One receive call: definitions and laws. The functions are in `pieces`, `delivering` and `putting`.
+// One receive call: definitions and laws. The functions are in `lengths`, `pieces`, `delivering`, `one_piece` and `putting`.

@@ -10,7 +10,7 @@ use lib.Seq.{length-take-le, getD-take}
 use lib.Dec.{leb}
 use borrow.Author.Tests.{leb-true}
 use Rattle.words.proofs.Word.{and-both}
-use Rattle.tollmeander.specs.Interface.{TransmitLeaves, ReceiveLeaves}
+use Rattle.interface.specs.Interface.{TransmitLeaves, ReceiveLeaves}
 use Rattle.replay.specs.Pattern.{Counted}
 use Rattle.replay.specs.Calls.{takes, mostCalls, lengths, lengthOf, FrameOf, TransmitCalled, TransmitCalls, ReceiveCalled, ReceiveCalls}
 

@@ -6,7 +6,7 @@ use Prim.Native.Nat.{ℕ, suc, _+_, _*_, _%_, _<_}
 use lib.ListN.{length, replicate, getD}
 use lib.Dec.{eqb}
 use Rattle.netif.specs.Slot.{slotCount}
-use Rattle.tollmeander.specs.Interface.{TransmitLeaves, ReceiveLeaves}
+use Rattle.interface.specs.Interface.{TransmitLeaves, ReceiveLeaves}
 use Rattle.replay.specs.Pattern.{Counted}
 
 -- whether a call with this answer took something: done or spoiled

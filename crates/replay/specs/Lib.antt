@@ -1,4 +1,3 @@
 -- The definitions that the promises cite.
-pub mod Fnv
 pub mod Pattern
 pub mod Calls

@@ -6,8 +6,8 @@ ghost use Rattle.ring.specs.Ring.{rspProd};
 ghost use Rattle.io.specs.Counts.{Counts};
 ghost use Rattle.replay.specs.Pattern.{Counted};
 ghost use Rattle.replay.specs.Calls.{takes, mostCalls, lengthOf, TransmitCalled, TransmitCalls, ReceiveCalled, ReceiveCalls};
-use crate::checksum;
-use crate::line;
+use lines::checksum;
+use lines::line;
 use netif::DataSlot;
 
 // A ring holds so many slots, and each call but the last takes one or more.

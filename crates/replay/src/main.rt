@@ -1,9 +1,7 @@
 // Runs the stored ring pages of real guests that its arguments name, and then document 01's examples that are not proved, through
 // the library's two calls, and prints a line for each call. tests/reference/FORMAT.md describes the inputs and the lines.
 mod calls;
-mod checksum;
 mod examples;
-mod line;
 mod stored;
 
 // The calls on the ring in the folder that an argument names.

@@ -1,11 +1,13 @@
-// The words of a call: the queue's two, and the report's ten.
+// The words of a call: the queue's two, the gso's three, and the report's ten.
 ghost use mathlib.Core.Path.{_≡_};
 ghost use Rattle.frontend.specs.Post.{reportOf as postReportOf};
 ghost use Rattle.answer.specs.Report.{flag, plain, spoiledReport, doneReport, plainSummary, reportOf};
 ghost use Rattle.answer.specs.Words.{queueOf, markAfter, reportWords};
+ghost use Rattle.interface.specs.Interface.{gsoOf};
 use answer::Answer;
 use answer::Queue;
 use answer::Summary;
+use frontend::Gso;
 
 // A yes or a no as a word.
 fn word(b: bool) -> u32
@@ -32,6 +34,16 @@ pub fn mark_after(mark: u32, halted: bool) -> u32
         return word(halted);
     }
     mark
+}
+
+// The gso that three words say: none where the first is 0.
+pub fn gso_of(given: u32, size: u16, kind: u8) -> Gso
+    ensures { λ r. ⌜ r ≡ gsoOf given size kind ⌝ }
+{
+    if given == 0 {
+        return Gso::Absent;
+    }
+    Gso::Given { size, kind }
 }
 
 // The report of an answer that does nothing more: its number, and zeros.

@@ -1,7 +1,5 @@
 // The C interface of the calls.
-ghost use mathlib.Core.Path.{_≡_};
-ghost use Rattle.tollmeander.specs.Interface.{TransmitLeaves, ReceiveLeaves, gsoOf, PostLeaves};
-use frontend::Gso;
+ghost use Rattle.interface.specs.Interface.{TransmitLeaves, ReceiveLeaves, PostLeaves};
 
 // Takes the packet at the counter of a transmit ring.
 #[no_mangle]
@@ -55,16 +53,6 @@ pub extern "C" fn tollmeander_receive_put(
     reporting::write(report, answer)
 }
 
-// The gso that three words say: none where the first is 0.
-fn gso_of(given: u32, size: u16, kind: u8) -> Gso
-    ensures { λ r. ⌜ r ≡ gsoOf given size kind ⌝ }
-{
-    if given == 0 {
-        return Gso::Absent;
-    }
-    Gso::Given { size, kind }
-}
-
 // Lays a frame into the pages that references name, and posts it on a transmit ring as one packet.
 #[no_mangle]
 pub extern "C" fn tollmeander_transmit_post(
@@ -83,7 +71,7 @@ pub extern "C" fn tollmeander_transmit_post(
         PostLeaves (now (grants .entry)) (now (window .entry)) «replies_read» gso «gso_size» «gso_type» (now (ring .entry))
         (now (references .entry)) (now (frame .entry)) r (now (ring .exit)) (now (window .exit)) (now (report .exit)) ⌝ }
 {
-    let extra = gso_of(gso, gso_size, gso_type);
+    let extra = reporting::gso_of(gso, gso_size, gso_type);
     let answer = post::post(replies_read, extra, grants, window, references, ring, frame);
     reporting::write_post(report, answer)
 }

@@ -2,7 +2,8 @@
 -- and the pages left lie in the window. One turn is `scatter-turn`, and so is the last piece.
 use borrow.Author.Needs.{needs}
 use mathlib.Core.Path.{_≡_, refl, sym, ap, _∙_}
-use Prim.Native.Nat.{ℕ, _+_, _-_, _*_, _≤_}
+use mathlib.Core.List.{List, _∷_}
+use Prim.Native.Nat.{ℕ, _+_, _-_, _*_, _≤_, _<_, min}
 use native.Mathlib.Nat.{sub-zero}
 use native.Mathlib.Omega.{arith}
 use lib.ListN.{length, take, drop, getD, length-take}
@@ -23,6 +24,34 @@ Inv-loop window₀ pages count frame i₀ window i =
 
 abbrev μ-loop : tie.MeasureT-loop
 μ-loop window₀ pages count frame i₀ window i = count - i
+
+-- ---- at the loop's test, with a piece left: its page lies in the window, and writing it there is a turn
+
+module _ (h : tie.At-loop Inv-loop μ-loop) where
+  abbrev start : tie.Start Inv-loop μ-loop
+  start = h .before .before .before
+
+  abbrev pages : List ℕ
+  pages = start .args .pages .now
+
+  abbrev frame : List ℕ
+  frame = start .args .frame .now
+
+  abbrev i : ℕ
+  i = h .loop .i
+
+  abbrev count : ℕ
+  count = start .args .count
+
+  usable : i < count → AllUsable (length (start .args .window .now)) (getD pages i 0 ∷ take (count - (i + 1)) (drop (i + 1) pages))
+  usable more = rw (part-cons pages 0 i count more (omega arith)) at (h .loop .inv .3)
+
+  turn : (n : ℕ) (next : List ℕ) → i < count → n ≡ min 4096 (length frame - 4096 * i)
+      → next ≡ withPage (h .loop .window) (getD pages i 0) (take (4096 * i + n - 4096 * i) (drop (4096 * i) frame))
+      → scatter (start .args .window .now) (take count pages) frame ≡ scatter next (take (count - (i + 1)) (drop (i + 1) pages)) (drop (4096 * (i + 1)) frame)
+  turn n next more size written = h .loop .inv .2 ∙ scatter-turn (h .loop .window) next pages frame i count n more (omega arith) size written
+
+-- ---- what is asked
 
 loop-holds : tie.Need-loop-holds Inv-loop μ-loop
 loop-holds c = (omega arith, refl, rw sub-zero, rw sub-zero (c .before .before .pre .4))
@@ -53,11 +82,8 @@ part-write-end c = search needs
 
 write-requires : tie.Need-write-requires Inv-loop μ-loop
 write-requires c κs =
-    let start = c .before .before .before .before .before .before .before in
-    let a = start .args in
-    let l = c .before .before .before .before .loop in
-    let usable = rw (part-cons (a .pages .now) 0 (l .i) (a .count) (omega arith) (omega arith)) at (l .inv .3) in
-    (omega (arith, usable .0), omega (arith, length-take (4096 * l .i + 4096 - 4096 * l .i) (drop (4096 * l .i) (a .frame .now))))
+    let h = c .before .before .before .before in
+    (omega (arith, usable h (omega arith) .0), omega (arith, length-take (4096 * i h + 4096 - 4096 * i h) (drop (4096 * i h) (frame h))))
 
 add-i : tie.Need-add-i Inv-loop μ-loop
 add-i c = search needs
@@ -67,15 +93,8 @@ loop-less c = search needs
 
 loop-again : tie.Need-loop-again Inv-loop μ-loop
 loop-again c =
-    let start = c .before .before .before .before .before .before .before .before .before .before in
-    let a = start .args in
-    let l = c .before .before .before .before .before .before .before .loop in
-    let usable = rw (part-cons (a .pages .now) 0 (l .i) (a .count) (omega arith) (omega arith)) at (l .inv .3) in (
-      omega arith,
-      omega arith,
-      l .inv .2 ∙ scatter-turn (l .window) _ (a .pages .now) (a .frame .now) (l .i) (a .count) 4096 (omega arith) (omega arith) (omega (arith, start .pre .2)) (c .before .before .write .ensures),
-      usable .1,
-    )
+    let h = c .before .before .before .before .before .before .before in
+    (omega arith, omega arith, turn h 4096 _ (omega arith) (omega (arith, start h .pre .2)) (c .before .before .write .ensures), usable h (omega arith) .1)
 
 mul-a-2 : tie.Need-mul-a-2 Inv-loop μ-loop
 mul-a-2 c = search needs
@@ -97,37 +116,27 @@ part-write-end-2 c = search needs
 
 write-requires-2 : tie.Need-write-requires-2 Inv-loop μ-loop
 write-requires-2 c κs =
-    let start = c .before .before .before .before .before .before .before .before in
-    let a = start .args in
-    let l = c .before .before .before .before .before .loop in
-    let usable = rw (part-cons (a .pages .now) 0 (l .i) (a .count) (omega arith) (omega arith)) at (l .inv .3) in
-    (omega (arith, usable .0), omega (arith, start .pre .3, length-take (length (a .frame .now) - 4096 * l .i) (drop (4096 * l .i) (a .frame .now))))
+    let h = c .before .before .before .before .before in
+    (omega (arith, usable h (omega arith) .0), omega (arith, start h .pre .3, length-take (length (frame h) - 4096 * i h) (drop (4096 * i h) (frame h))))
 
 same-length : tie.Need-same-length Inv-loop μ-loop
 same-length c = search needs
 
 returns : tie.Need-returns Inv-loop μ-loop
 returns c =
-    let start = c .before .before .before .before .before .before .before .before .before .before .before in
-    let a = start .args in
-    let l = c .before .before .before .before .before .before .before .before .loop in
-    let n = length (a .frame .now) - 4096 * l .i in
-    let size : n ≡ 4096 * l .i + n - 4096 * l .i = omega arith in
-    let last = c .before .before .write2 .ensures ∙ ap (λ (x : ℕ). withPage (l .window) (getD (a .pages .now) (l .i) 0) (take x (drop (4096 * l .i) (a .frame .now)))) size in
-    sym
-    (l .inv .2
-    ∙ scatter-turn (l .window) _ (a .pages .now) (a .frame .now) (l .i) (a .count) n (omega arith) (omega arith) (omega (arith, start .pre .3)) last
-    ∙ scatter-last _ (a .pages .now) (a .frame .now) (l .i + 1) (a .count) (omega arith))
+    let h = c .before .before .before .before .before .before .before .before in
+    let n = length (frame h) - 4096 * i h in
+    let size : n ≡ 4096 * i h + n - 4096 * i h = omega arith in
+    let last = c .before .before .write2 .ensures ∙ ap (λ (x : ℕ). withPage (h .loop .window) (getD (pages h) (i h) 0) (take x (drop (4096 * i h) (frame h)))) size in
+    sym (turn h n _ (omega arith) (omega (arith, start h .pre .3)) last ∙ scatter-last _ (pages h) (frame h) (i h + 1) (count h) (omega arith))
 
 same-length-2 : tie.Need-same-length-2 Inv-loop μ-loop
 same-length-2 c = search needs
 
 returns-2 : tie.Need-returns-2 Inv-loop μ-loop
 returns-2 c =
-    let start = c .before .before .before .before .before in
-    let a = start .args in
-    let l = c .before .before .loop in
-    sym (l .inv .2 ∙ scatter-last (l .window) (a .pages .now) (a .frame .now) (l .i) (a .count) (omega arith))
+    let h = c .before .before in
+    sym (h .loop .inv .2 ∙ scatter-last (h .loop .window) (pages h) (frame h) (i h) (count h) (omega arith))
 
 pub scatter-spec : {M : Type 1} → statement M
 scatter-spec =

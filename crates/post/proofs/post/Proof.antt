@@ -10,6 +10,23 @@ use Rattle.frontend.proofs.Calls.{frame-small, posts-bad-page, posts-bad-length
 use Rattle.post.proofs.post.Statement.{statement}
 use Rattle.post.proofs.post.Tie as tie
 
+-- ---- what the three tests leave
+
+module _ (e : tie.Else3) where
+  abbrev start : tie.Start
+  start = e .before .before .before .before .before .before .before .before .before .before .before .before
+
+  page-size : length (start .args .ring .now) ≡ 4096
+  page-size = eqb-true _ 4096 (sym (e .before .before .before .before .before .is-page .ensures) ∙ not-false _ (e .before .before .before .before .if1 .left))
+
+  good-length : badLength (length (start .args .frame .now)) ≡ false
+  good-length = sym (e .before .before .before .bad-length .ensures) ∙ e .before .before .if2 .left
+
+  good-gso : badGso (start .args .gso) ≡ false
+  good-gso = sym (e .before .bad-gso .ensures) ∙ e .if3 .left
+
+-- ---- what is asked
+
 is-page-requires : tie.Need-is-page-requires
 is-page-requires c κs = search needs
 
@@ -42,16 +59,6 @@ returns-3 : tie.Need-returns-3
 returns-3 c =
     let a = c .before .before .before .before .before .before .before .before .before .before .before .before .args in
     posts-bad-gso (a .grants .now) (a .ring .now) (a .window .now) (a .read) (a .gso) (a .references .now) (a .frame .now) (sym (c .before .before .before .before .before .is-page .ensures) ∙ not-false _ (c .before .before .before .before .if1 .left)) (sym (c .before .before .before .bad-length .ensures) ∙ c .before .before .if2 .left) (sym (c .before .bad-gso .ensures) ∙ c .if3 .taken)
-
--- what the three tests leave
-page-size : (c : tie.Else3) → length (c .before .before .before .before .before .before .before .before .before .before .before .before .args .ring .now) ≡ 4096
-page-size c = eqb-true _ 4096 (sym (c .before .before .before .before .before .is-page .ensures) ∙ not-false _ (c .before .before .before .before .if1 .left))
-
-good-length : (c : tie.Else3) → badLength (length (c .before .before .before .before .before .before .before .before .before .before .before .before .args .frame .now)) ≡ false
-good-length c = sym (c .before .before .before .bad-length .ensures) ∙ c .before .before .if2 .left
-
-good-gso : (c : tie.Else3) → badGso (c .before .before .before .before .before .before .before .before .before .before .before .before .args .gso) ≡ false
-good-gso c = sym (c .before .bad-gso .ensures) ∙ c .if3 .left
 
 needed-requires : tie.Need-needed-requires
 needed-requires c κs = frame-small _ (good-length c)

@@ -2,7 +2,8 @@
 use borrow.Author.Needs.{needs}
 use native.Mathlib.Omega.{arith}
 use mathlib.Core.Path.{_≡_, sym, _∙_}
-use Prim.Native.Nat.{_+_, _-_, _*_, _≤_}
+use mathlib.Core.List.{List}
+use Prim.Native.Nat.{ℕ, _+_, _-_, _*_, _≤_}
 use lib.ListN.{length, take, drop}
 use Rattle.ring.specs.Ring.{withSlots}
 use Rattle.frontend.specs.Post.{laterFor}
@@ -20,8 +21,28 @@ Inv-loop ring₀ first refs count frame i₀ ring i =
 abbrev μ-loop : tie.MeasureT-loop
 μ-loop ring₀ first refs count frame i₀ ring i = count - i
 
+-- ---- at the loop's test
+
+module _ (h : tie.At-loop Inv-loop μ-loop) where
+  abbrev start : tie.Start Inv-loop μ-loop
+  start = h .before .before .before .before
+
+  abbrev refs : List ℕ
+  refs = start .args .references .now
+
+  abbrev frame : List ℕ
+  frame = start .args .frame .now
+
+  abbrev count : ℕ
+  count = start .args .count
+
+-- ---- what is asked
+
 loop-holds : tie.Need-loop-holds Inv-loop μ-loop
-loop-holds c = let a = c .before .before .before .args in (omega arith, c .before .before .before .pre .1, c .before .before .before .pre .0, later-first (a .references .now) (a .frame .now) (a .count) (c .before .before .before .pre .3) (a .first) (a .ring .now))
+loop-holds c =
+    let s = c .before .before .before in
+    let a = s .args in
+    (omega arith, s .pre .1, s .pre .0, later-first (a .references .now) (a .frame .now) (a .count) (s .pre .3) (a .first) (a .ring .now))
 
 cast-piece-of : tie.Need-cast-piece-of Inv-loop μ-loop
 cast-piece-of c = search needs
@@ -64,15 +85,21 @@ loop-less c = search needs
 
 loop-again : tie.Need-loop-again Inv-loop μ-loop
 loop-again c =
-    let a = c .before .before .before .before .before .before .before .before .before .before .before .before .before .args in
-    let l = c .before .before .before .before .before .before .before .before .before .loop in
-    (omega arith, omega (arith, c .before .before .before .before .before .before .before .before .loop-test .taken), (search needs), l .inv .3 ∙ later-next (a .references .now) (a .frame .now) (a .count) (c .before .before .before .before .before .before .before .before .before .before .before .before .before .pre .3) (a .first) (l .ring) _ (l .i) _ _ _ (l .inv .0) (c .before .before .before .before .before .before .before .before .loop-test .taken) (c .before .before .before .before .before .ahead .ensures) (c .before .before .before .flags .ensures) (c .before .before .before .before .before .before .before .piece-of .ensures) (c .before .before .put-data .ensures))
+    let h = c .before .before .before .before .before .before .before .before .before in
+    let t = c .before .before .before .before .before .before .before .before .loop-test in (
+      omega arith,
+      omega (arith, t .taken),
+      search needs,
+      h .loop .inv .3 ∙ later-next (refs h) (frame h) (count h) (start h .pre .3) (start h .args .first) (h .loop .ring) _ (h .loop .i) _ _ _ (h .loop .inv .0) (t .taken) (c .before .before .before .before .before .ahead .ensures) (c .before .before .before .flags .ensures) (c .before .before .before .before .before .before .before .piece-of .ensures) (c .before .before .put-data .ensures),
+    )
 
 same-length : tie.Need-same-length Inv-loop μ-loop
 same-length c = search needs
 
 returns : tie.Need-returns Inv-loop μ-loop
-returns c = let a = c .before .before .before .before .before .args in let l = c .before .loop in sym (l .inv .3 ∙ later-last (a .references .now) (a .frame .now) (a .count) (c .before .before .before .before .before .pre .3) (a .first) (l .ring) (l .i) (omega (arith, c .loop-test .left)))
+returns c =
+    let h = c .before in
+    sym (h .loop .inv .3 ∙ later-last (refs h) (frame h) (count h) (start h .pre .3) (start h .args .first) (h .loop .ring) (h .loop .i) (omega (arith, c .loop-test .left)))
 
 pub put-later-spec : {M : Type 1} → statement M
 put-later-spec =

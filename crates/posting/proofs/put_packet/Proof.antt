@@ -1,11 +1,20 @@
 -- `put_packet` meets its contract: the slots one after the other (`packet-written`).
 use borrow.Author.Needs.{needs}
+use Prim.Native.Nat.{_≤_}
 use native.Mathlib.Omega.{arith}
 use lib.ListN.{drop, take, getD}
 use Rattle.frontend.proofs.Shape.{few-extras}
 use Rattle.frontend.proofs.Calls.{packet-written, used-cons, used-count}
 use Rattle.posting.proofs.put_packet.Statement.{statement}
 use Rattle.posting.proofs.put_packet.Tie as tie
+
+-- where the extras are counted: there is at most one
+module _ (e : tie.After-extras-of) where
+  abbrev start : tie.Start
+  start = e .before .before .before .before .before .before
+
+  few : e .extras-of .result ≤ 1
+  few = omega (arith, e .extras-of .ensures, few-extras (start .args .gso))
 
 requests-requires : tie.Need-requests-requires
 requests-requires c κs = search needs
@@ -14,7 +23,7 @@ extras-of-requires : tie.Need-extras-of-requires
 extras-of-requires c κs = search needs
 
 shared-slice-read-put-data : tie.Need-shared-slice-read-put-data
-shared-slice-read-put-data c = omega (arith, c .before .before .before .before .before .before .before .before .pre .1, c .before .before .before .before .before .before .before .before .pre .3)
+shared-slice-read-put-data c = let s = start (c .before .before) in omega (arith, s .pre .1, s .pre .3)
 
 flags-requires : tie.Need-flags-requires
 flags-requires c κs = search needs
@@ -32,7 +41,7 @@ put-extras-requires : tie.Need-put-extras-requires
 put-extras-requires c κs = search needs
 
 add-ahead : tie.Need-add-ahead
-add-ahead c = omega (arith, c .before .before .before .before .before .before .before .before .before .before .before .before .extras-of .ensures, few-extras (c .before .before .before .before .before .before .before .before .before .before .before .before .before .before .before .before .before .before .args .gso))
+add-ahead c = omega (arith, few (c .before .before .before .before .before .before .before .before .before .before .before .before))
 
 ahead-requires-2 : tie.Need-ahead-requires-2
 ahead-requires-2 c κs = search needs
@@ -41,7 +50,7 @@ put-later-requires : tie.Need-put-later-requires
 put-later-requires c κs = search needs
 
 add-ahead-2 : tie.Need-add-ahead-2
-add-ahead-2 c = omega (arith, c .before .before .before .before .before .before .before .before .before .before .before .before .before .before .before .before .extras-of .ensures, few-extras (c .before .before .before .before .before .before .before .before .before .before .before .before .before .before .before .before .before .before .before .before .before .before .args .gso), c .before .before .before .before .before .before .before .before .before .before .before .before .before .before .before .before .before .before .before .before .before .before .pre .2)
+add-ahead-2 c = let e = c .before .before .before .before .before .before .before .before .before .before .before .before .before .before .before .before in omega (arith, few e, start e .pre .2)
 
 ahead-requires-3 : tie.Need-ahead-requires-3
 ahead-requires-3 c κs = search needs
@@ -54,13 +63,16 @@ same-length c = search needs
 
 returns : tie.Need-returns
 returns c =
-    let a = c .before .before .before .before .before .before .before .before .before .before .before .before .before .before .before .before .before .before .before .before .before .before .before .before .before .before .before .args in
-    let p = c .before .before .before .before .before .before .before .before .before .before .before .before .before .before .before .before .before .before .before .before .before .before .before .before .before .before .before .pre in
-    let e = used-cons (a .references .now) (a .count) (p .1) (p .3) in
-    rw e
+    let later = c .before .before .before .before .before .before .before in
+    let extra = later .before .before .before .before .before in
+    let head = extra .before .before .before .before .before in
+    let e = head .before .before .before .before in
+    let a = start e .args in
+    let p = start e .pre in
+    rw (used-cons (a .references .now) (a .count) (p .1) (p .3))
     (packet-written (a .ring .now) (p .0) (a .gso) (getD (a .references .now) 0 0) (drop 1 (take (a .count) (a .references .now))) (a .frame .now) (a .count) _ _ (used-count (a .references .now) (a .count) (p .1) (p .3))
-    (c .before .before .before .before .before .before .before .before .before .before .before .before .before .before .before .before .before .before .before .before .before .extras-of .ensures) (c .before .before .before .before .before .before .before .before .before .before .before .before .before .before .before .before .before .before .flags .ensures) _ _ _ _ _ _ _ (c .before .before .before .before .before .before .before .before .before .before .before .before .before .before .before .before .before .before .before .before .before .before .requests .ensures) (c .before .before .before .before .before .before .before .before .before .before .before .before .before .before .before .before .before .put-data .ensures) (c .before .before .before .before .before .before .before .before .before .before .before .before .before .ahead .ensures) (c .before .before .before .before .before .before .before .before .before .before .before .before .put-extras .ensures)
-    (c .before .before .before .before .before .before .before .before .ahead2 .ensures) (c .before .before .before .before .before .before .before .put-later .ensures) (c .before .before .before .before .ahead3 .ensures) _ _ (c .before .before .publish .ensures))
+    (e .extras-of .ensures) (head .before .flags .ensures) _ _ _ _ _ _ _ (e .before .requests .ensures) (head .put-data .ensures) (extra .before .ahead .ensures) (extra .put-extras .ensures)
+    (later .before .ahead2 .ensures) (later .put-later .ensures) (c .before .before .before .before .ahead3 .ensures) _ _ (c .before .before .publish .ensures))
 
 pub put-packet-spec : {M : Type 1} → statement M
 put-packet-spec =

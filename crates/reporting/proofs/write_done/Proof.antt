@@ -1,5 +1,6 @@
 -- `write_done` meets its contract: the ten words in their order, each flag as its word.
 use mathlib.Core.Path.{refl}
+use mathlib.Core.List.{[], _∷_}
 use Rattle.answer.specs.Words.{reportWords}
 use borrow.Author.Needs.{needs}
 use Rattle.reporting.proofs.write_done.Statement.{statement}
@@ -22,7 +23,11 @@ cast-gso-type c = search needs
 
 returns : tie.Need-returns
 unfolding reportWords
-returns c = (refl, rw (c .before .before .before .before .before .word .ensures, c .before .before .before .before .word2 .ensures, c .before .before .before .word3 .ensures))
+returns c =
+    let blank = c .before .before .before .before in
+    let notified = blank .before in
+    let s = notified .before .args .s in
+    (refl, λ i. 0 ∷ 0 ∷ 0 ∷ s .slots ∷ notified .word .ensures i ∷ s .total ∷ blank .word2 .ensures i ∷ c .before .before .before .word3 .ensures i ∷ s .«gso_size» ∷ s .«gso_type» ∷ [])
 
 pub write-done-spec : {M : Type 1} → statement M
 write-done-spec =

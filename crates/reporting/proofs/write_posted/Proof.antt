@@ -1,6 +1,7 @@
 -- `write_posted` meets its contract: the ten words in their order, the flag as its word.
 use borrow.Author.Needs.{needs}
 use mathlib.Core.Path.{refl}
+use mathlib.Core.List.{[], _∷_}
 use Rattle.answer.specs.Words.{reportWords}
 use Rattle.reporting.proofs.write_posted.Statement.{statement}
 use Rattle.reporting.proofs.write_posted.Tie as tie
@@ -10,7 +11,9 @@ word-requires c κs = search needs
 
 returns : tie.Need-returns
 unfolding reportWords
-returns c = (refl, rw (c .before .word .ensures))
+returns c =
+    let w = c .before in
+    (refl, λ i. 0 ∷ 0 ∷ 0 ∷ w .before .args .slots ∷ w .word .ensures i ∷ 0 ∷ 0 ∷ 0 ∷ 0 ∷ 0 ∷ [])
 
 pub write-posted-spec : {M : Type 1} → statement M
 write-posted-spec = tie.close (tie.spec word-requires returns)

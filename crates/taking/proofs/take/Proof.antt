@@ -1,7 +1,7 @@
 -- `take` meets its contract, in the order of the answers.
 use mathlib.Core.Path.{_≡_, refl, sym, ap, _∙_}
 use mathlib.Core.List.{List}
-use Prim.Native.Nat.{ℕ}
+use Prim.Native.Nat.{ℕ, _<_}
 use native.Mathlib.Omega.{arith}
 use lib.ListN.{length}
 use borrow.Author.Needs.{needs}
@@ -80,7 +80,8 @@ same-length-3 c = search needs
 returns-3 : tie.Need-returns-3
 returns-3 c =
     let s = c .before .before .before .before .before .before .before .before .before .before .before .before in
-    rw (take-of (table s) (window s) (q s) (page s) (frame s) (stop 3) (look-over (table s) (window s) (q s) (page s) (sized (c .before .before .before .before .before)) (c .before .before .before .before .if2 .left) (rw (c .before .before .posted .ensures) at (c .before .if3 .taken))), c .halt .ensures)
+    let over : 256 < c .before .before .posted .result = omega (arith, c .before .if3 .taken) in
+    rw (take-of (table s) (window s) (q s) (page s) (frame s) (stop 3) (look-over (table s) (window s) (q s) (page s) (sized (c .before .before .before .before .before)) (c .before .before .before .before .if2 .left) (rw (c .before .before .posted .ensures) at over)), c .halt .ensures)
     (gives-refusal 3 (q s) (page s) (frame s) Overflow refl)
 
 ask-requires : tie.Need-ask-requires

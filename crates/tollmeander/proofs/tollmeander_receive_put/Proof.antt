@@ -25,8 +25,10 @@ same-length-2 c = search needs
 
 returns : tie.Need-returns
 returns c =
-    leaves-words _ (c .before .before .before .before .before .before .before .before .put .result) _ _ (c .before .before .before .before .before .before .before .before .before .before .before .before .before .before .before .before .before .before .args .halted .now) _
-    (rw (c .before .before .before .before .before .before .before .before .before .before .before .queue-of .ensures) at (c .before .before .before .before .before .before .before .before .put .ensures)) (c .write .ensures) refl (c .before .before .mark-after .ensures) refl refl
+    let t = c .before .before .before .before .before .before .before .before in
+    let q = t .before .before .before in
+    leaves-words _ (t .put .result) _ _ (q .before .before .before .before .before .before .before .args .halted .now) _
+    (rw (q .queue-of .ensures) at (t .put .ensures)) (c .write .ensures) refl (c .before .before .mark-after .ensures) refl refl
 
 pub tollmeander-receive-put-spec : {M : Type 1} → statement M
 tollmeander-receive-put-spec =

@@ -23,7 +23,8 @@ same-length-2 c = search needs
 
 returns : tie.Need-returns
 returns c =
-    let g = rw (c .before .before .before .before .before .before .before .before .before .gso-of .ensures) at (c .before .before .before .before .before .before .post .ensures) in
+    let p = c .before .before .before .before .before .before in
+    let g = rw (p .before .before .before .gso-of .ensures) at (p .post .ensures) in
     let w = c .write-post .ensures in
     record {
       returns = w .0 ∙ ap (λ (x : Report). x .answer) (g .report);
