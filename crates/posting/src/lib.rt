@@ -38,11 +38,11 @@ fn put_later(ring: &mut [u8], first: u32, references: &[u32], count: u32, frame:
     let mut i: u32 = 1;
     while i < count {
         let size = lengths::piece_of(frame.len(), i as usize) as u16;
-        slots::put_data(
+        encoding::put_data(
             ring,
             ring::ahead(first, i - 1),
             references[i as usize],
-            slots::flags(i + 1 < count, false),
+            encoding::flags(i + 1 < count, false),
             size,
         );
         i += 1;
@@ -56,7 +56,7 @@ fn put_extras(ring: &mut [u8], n: u32, gso: Gso)
 {
     match gso {
         Gso::Absent => {}
-        Gso::Given { size, kind } => slots::put_extra(ring, n, size, kind),
+        Gso::Given { size, kind } => encoding::put_extra(ring, n, size, kind),
     }
 }
 
@@ -74,11 +74,11 @@ pub fn put_packet(ring: &mut [u8], gso: Gso, references: &[u32], count: u32, fra
 {
     let old = ring::requests(ring);
     let extras = extras_of(gso);
-    slots::put_data(
+    encoding::put_data(
         ring,
         old,
         references[0],
-        slots::flags(1 < count, 0 < extras),
+        encoding::flags(1 < count, 0 < extras),
         frame.len() as u16,
     );
     put_extras(ring, ring::ahead(old, 1), gso);

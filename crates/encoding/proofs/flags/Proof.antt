@@ -3,8 +3,8 @@ use mathlib.Core.Path.{_≡_}
 use mathlib.Core.Bool.{Bool}
 use borrow.Author.Needs.{needs}
 use Rattle.frontend.specs.Post.{flagsFor}
-use Rattle.slots.proofs.flags.Statement.{statement}
-use Rattle.slots.proofs.flags.Tie as tie
+use Rattle.encoding.proofs.flags.Statement.{statement}
+use Rattle.encoding.proofs.flags.Tie as tie
 
 known : {m x : Bool} (more extra : Bool) → more ≡ m → extra ≡ x → flagsFor m x ≡ flagsFor more extra
 known more extra p q = rw (p, q)
