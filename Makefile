@@ -3,10 +3,13 @@
 # make demo             eight guests and the host between them
 # make test             the gate: all proofs, then all tests
 # make bench            the library beside plain C
+# make xen              build/tollmeander-xen, a host for real Xen guests (needs libxen-dev)
+# make live             boots Xen and Linux guests under QEMU, and serves them (needs network, root, minutes)
 # make soak SECONDS=..  the differential test for so long
 .DEFAULT_GOAL := lib
 include c.mk
 include bench.mk
+include live.mk
 
 .PHONY: test soak clean
 SECONDS ?= 600

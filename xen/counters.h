@@ -1,0 +1,33 @@
+/* What is counted of one connection. */
+#ifndef TOLLMEANDER_COUNTERS_H
+#define TOLLMEANDER_COUNTERS_H
+
+#include <stdint.h>
+
+#include "tollmeander.h"
+
+enum {
+    COUNTERS_ANSWERS = TOLLMEANDER_BAD_GSO + 2,     /* the last is for unknown ones */
+    COUNTERS_CAUSES = TOLLMEANDER_CAUSE_GSO + 2
+};
+
+/* Answers of one ring, by number, and causes of those that are SPOILED. */
+struct ring_counters {
+    uint64_t answer[COUNTERS_ANSWERS];
+    uint64_t cause[COUNTERS_CAUSES];
+};
+
+struct counters {
+    struct ring_counters transmit, receive;
+    uint64_t bytes, slots, most_slots, gso;         /* of packets taken */
+    uint64_t given_bytes;                           /* of frames given */
+    uint64_t dropped;   /* frames that had no buffers in time or at the end, or were too long */
+};
+
+void counters_take(struct counters *counters, const struct tollmeander_report *report);
+void counters_put(struct counters *counters, const struct tollmeander_report *report);
+
+/* Adds the counters of one connection to those of others. */
+void counters_add(struct counters *sum, const struct counters *counters);
+
+#endif

@@ -1,0 +1,73 @@
+#include "table.h"
+
+#include <inttypes.h>
+#include <stdio.h>
+
+#include "names.h"
+
+void table_add(struct table *table, const char *name, const char *end,
+               const struct counters *count)
+{
+    struct table_line *line = &table->line[table->connections % TABLE_LINES];
+
+    if (table->connections >= TABLE_LINES)
+        counters_add(&table->earlier, &line->count);
+    snprintf(line->name, sizeof line->name, "%s", name);
+    line->end = end;
+    line->count = *count;
+    table->connections++;
+}
+
+/* Each answer of a ring by name, a refused packet by its cause as well. */
+static void print_ring(const char *ring, const struct ring_counters *count)
+{
+    const char *before = "";
+
+    printf("    %s: ", ring);
+    for (uint32_t i = 0; i < COUNTERS_ANSWERS; i++) {
+        if (count->answer[i] == 0 || i == TOLLMEANDER_SPOILED)
+            continue;
+        printf("%s%s %" PRIu64, before, tollmeander_answer_name(i), count->answer[i]);
+        before = ", ";
+    }
+    for (uint32_t i = 0; i < COUNTERS_CAUSES; i++) {
+        if (count->cause[i] == 0)
+            continue;
+        printf("%s%s (%s) %" PRIu64, before, tollmeander_answer_name(TOLLMEANDER_SPOILED),
+               tollmeander_cause_name(i), count->cause[i]);
+        before = ", ";
+    }
+    puts(*before ? "" : "nothing");
+}
+
+static void print_line(const char *name, const char *end, const struct counters *count)
+{
+    printf("%-8s %8" PRIu64 " %11" PRIu64 " %8" PRIu64 " %4" PRIu64 " %6" PRIu64 " %8" PRIu64
+           " %11" PRIu64 " %7" PRIu64 " %9" PRIu64 "  %s\n", name,
+           count->transmit.answer[TOLLMEANDER_DONE], count->bytes, count->slots,
+           count->most_slots, count->gso, count->receive.answer[TOLLMEANDER_DONE],
+           count->given_bytes, count->dropped, count->receive.answer[TOLLMEANDER_SPOILED], end);
+    print_ring("transmit", &count->transmit);
+    print_ring("receive", &count->receive);
+}
+
+void table_print(const struct table *table)
+{
+    uint64_t first = table->connections > TABLE_LINES ? table->connections - TABLE_LINES : 0;
+
+    if (table->connections == 0) {
+        puts("no guest has connected");
+        return;
+    }
+    puts("         packets       bytes    slots most    gso   frames       bytes             not");
+    puts("vif        taken       taken    taken in 1  taken    given       given dropped delivered"
+         "  end");
+    if (first > 0)
+        print_line("earlier", "(together)", &table->earlier);
+    for (uint64_t n = first; n < table->connections; n++) {
+        const struct table_line *line = &table->line[n % TABLE_LINES];
+
+        print_line(line->name, line->end, &line->count);
+    }
+    printf("%" PRIu64 " connections\n", table->connections);
+}
