@@ -51,6 +51,15 @@ static void print_line(const char *name, const char *end, const struct counters 
     print_ring("receive", &count->receive);
 }
 
+static void print_head(void)
+{
+    const char *const form = "%-8s %8s %11s %8s %4s %6s %8s %11s %7s %9s  %s\n";
+
+    printf(form, "", "packets", "bytes", "slots", "most", "gso", "frames", "bytes", "", "not", "");
+    printf(form, "vif", "taken", "taken", "taken", "in 1", "taken", "given", "given", "dropped",
+           "delivered", "end");
+}
+
 void table_print(const struct table *table)
 {
     uint64_t first = table->connections > TABLE_LINES ? table->connections - TABLE_LINES : 0;
@@ -59,9 +68,7 @@ void table_print(const struct table *table)
         puts("no guest has connected");
         return;
     }
-    puts("         packets       bytes    slots most    gso   frames       bytes             not");
-    puts("vif        taken       taken    taken in 1  taken    given       given dropped delivered"
-         "  end");
+    print_head();
     if (first > 0)
         print_line("earlier", "(together)", &table->earlier);
     for (uint64_t n = first; n < table->connections; n++) {
