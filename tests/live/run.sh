@@ -44,9 +44,14 @@ keep_result() {
     cat "$LIVE/result.txt"
 }
 
+# build_program: the back end, and its test over a pretended Xen.
+build_program() {
+    make -C "$PROJECT" -s -f live.mk xen xen-test XEN="$DOM0_ROOT" BUILD="$build" TOLLMEANDER_LIB="$library" \
+        LIVE_SANITIZE="${LIVE_SANITIZE-}"
+}
+
 step "$HERE/fetch.sh"
-step make -C "$PROJECT" -s -f live.mk xen XEN="$DOM0_ROOT" BUILD="$build" TOLLMEANDER_LIB="$library" \
-    LIVE_SANITIZE="${LIVE_SANITIZE-}"
+step build_program
 step "$HERE/pack.sh" "$build/tollmeander-xen" "$cases"
 echo "live: booting; cases: $cases"
 begun=$SECONDS
