@@ -7,11 +7,19 @@
 /* No guest may hold the host for longer by writing to XenStore. */
 enum { WATCHES_A_TURN = 16 };
 
-/* The place of the vif with this folder, or a free one with NULL; -1 if there is none. */
+/* The place of the vif with this folder; -1 if there is none. */
 static int find(const struct vifs *vifs, const char *folder)
 {
     for (int i = 0; i < VIFS_MOST; i++)
-        if (folder ? vifs->vif[i] && strcmp(vifs->vif[i]->folder, folder) == 0 : !vifs->vif[i])
+        if (vifs->vif[i] && strcmp(vifs->vif[i]->folder, folder) == 0)
+            return i;
+    return -1;
+}
+
+static int find_free(const struct vifs *vifs)
+{
+    for (int i = 0; i < VIFS_MOST; i++)
+        if (!vifs->vif[i])
             return i;
     return -1;
 }
@@ -19,7 +27,7 @@ static int find(const struct vifs *vifs, const char *folder)
 /* Serves a vif that is not known yet; -1, and it is counted, if that cannot be. */
 static int add(struct vifs *vifs, const char *folder, struct left_out *left)
 {
-    int place = find(vifs, NULL);
+    int place = find_free(vifs);
     struct vif *vif;
 
     if (place < 0 && !store_lacks(vifs->xen->store, folder, "frontend")) {

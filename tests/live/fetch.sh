@@ -3,8 +3,8 @@
 #
 # usage: tests/live/fetch.sh
 #
-# What is there is not fetched again: remove the work folder for newer packages. The list of what was fetched, with sums,
-# is packages.txt there.
+# What is there is not fetched again: remove the work folder for newer packages. The list of what was fetched, with
+# sums, is packages.txt there.
 set -eu
 # shellcheck source=tests/live/settings.sh
 . "$(dirname "$0")/settings.sh"

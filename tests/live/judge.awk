@@ -1,7 +1,7 @@
 # Judges the result of a run: see judge.sh, which says which cases are wanted.
 #
-# A result has a line "=== CASE .." for each case. What dom0 says begins with "dom0: ", what a guest says with its name in
-# brackets, and what the host says with "[host] ".
+# A result has a line "=== CASE .." for each case. What dom0 says begins with "dom0: ", what a guest says with its name
+# in brackets, and what the host says with "[host] ".
 
 # expect(CASE, ECHOES, PINGS, CONNECTIONS, HOSTS): echo runs, lines of answered pings, lines in the tables of the hosts,
 # and hosts that end by themselves.

@@ -1,7 +1,7 @@
 /*
  * xen/queue.c and xen/pages.c over a pretended Xen, for what real guests do not do on demand: no
- * buffers for 10 seconds, an event without work, references in several slots, copies that Xen refuses
- * in the middle of a frame, and a host that lends something wrong.
+ * buffers for 10 seconds, an event without work, references in several slots, copies that Xen
+ * refuses in the middle of a frame, and a host that lends something wrong.
  */
 #include <string.h>
 
@@ -246,7 +246,7 @@ static void test_not_granted(void)
     close_queue();
 }
 
-/* Xen refuses the second of three pieces: no part of the frame is delivered, and the next one is. */
+/* Xen refuses the second of three pieces: no part of that frame is delivered; the next one is. */
 static void test_refused_piece(void)
 {
     open_queue(true);
