@@ -113,7 +113,7 @@ returns-2 c =
     rw (c .extras-so-far2 .ensures) (record {
       few = l .inv .1;
       limit = l .inv .2;
-      rest = λ more. so-far f more ∙ extra-end (left f) 1 (count f) more (limit f more ∙ not-false _ (c .before .before .if1 .left)) (behind-none (page f) (first f) (posted f) (count f + 1) (c .before .if2 .taken));
+      rest = λ more. so-far f more ∙ extra-end (left f) 1 (count f) more (limit f more ∙ not-false _ (c .before .before .if1 .left)) (behind-none (page f) (first f) (posted f) (count f + 1) (omega (arith, c .before .if2 .taken)));
       gsoSize = l .inv .3;
       gsoType = l .inv .4;
     })

@@ -147,7 +147,7 @@ returns-2 c =
     let right = sym (limit f) ∙ not-false _ (c .before .if1 .left) in
     record {
       few = l .inv .1;
-      rest = so-far f ∙ data-end (left f) (count f + 1) (extras f) right (behind-none (page f) (first f) (posted f) (count f + 1 + extras f) (c .if2 .taken));
+      rest = so-far f ∙ data-end (left f) (count f + 1) (extras f) right (behind-none (page f) (first f) (posted f) (count f + 1 + extras f) (omega (arith, c .if2 .taken)));
       sum = l .inv .3;
       table = l .inv .4;
     }
