@@ -1,10 +1,11 @@
 -- The words that a call leaves say the queue that its effect leaves, so that lent on they go on with it: the mark by its two cases, 0 and
 -- anything else.
 use mathlib.Core.Path.{_≡_, refl, sym, ap, _∙_}
-use mathlib.Core.Bool.{Bool, true, false, not}
+use mathlib.Core.Bool.{Bool, true, false, cond, not}
 use Prim.Native.Nat.{ℕ}
 use lib.Dec.{eqb}
 use Rattle.answer.specs.Effect.{Effect}
+use Rattle.answer.specs.Report.{flag}
 use Rattle.answer.specs.Words.{queueOf, markAfter, Left, Leaves}
 
 marked : (mark : ℕ) (h : Bool) → eqb mark 0 ≡ true → not (eqb (markAfter mark h) 0) ≡ h
@@ -14,7 +15,7 @@ marked mark false e = rw e
 
 kept : (mark : ℕ) (h : Bool) → eqb mark 0 ≡ false → markAfter mark h ≡ mark
 unfolding markAfter
-kept mark h e = rw e
+kept mark h e = ap (λ (b : Bool). cond b (flag h) mark) e
 
 -- the mark left says what the queue is, if no call undoes a halt
 pub mark-left : (mark : ℕ) (halted : Bool) → (not (eqb mark 0) ≡ true → halted ≡ true) → not (eqb (markAfter mark halted) 0) ≡ halted

@@ -1,12 +1,10 @@
 // The comparison on generated runs, by the settings of the generator.
 ghost use Prim.Native.Nat.{_+_, _≤_};
-ghost use Rattle.compare.specs.Tally.{Agreeing};
+ghost use Rattle.tally.specs.Tally.{Agreeing};
 use crate::line;
-use crate::made;
-use crate::made::Setting;
-use crate::tally;
-use crate::tally::Tally;
 use netif::DataSlot;
+use runs::Setting;
+use tally::Tally;
 
 // The runs of a setting.
 const RUNS: u32 = 512;
@@ -16,7 +14,7 @@ fn run(number: u32, setting: Setting) -> Tally
     ensures { λ r. ⌜ Agreeing 1 r ⌝ }
 {
     let mut room = [0u8; 3084];
-    let n = made::make(number, setting, &mut room);
+    let n = runs::make(number, setting, &mut room);
     let run = &room[..n];
     tally::of(n / DataSlot::WIDTH, readers::compare(run))
 }

@@ -1,9 +1,9 @@
 // The printed lines, written field by field.
-use crate::tally::Tally;
 use division::Divided;
 use division::Ending;
 use libc::STDOUT_FILENO;
 use readers::Compared;
+use tally::Tally;
 
 // Bytes as they are.
 fn text(bytes: &[u8]) {

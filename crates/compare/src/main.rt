@@ -1,15 +1,11 @@
 // Runs both readers on the stored transmit ring pages that its arguments name and then on generated runs, and
 // prints a line for each page and for each setting of the generator. tests/reference/FORMAT.md describes the runs and the lines.
-mod answer;
-mod draw;
 mod generated;
 mod line;
-mod made;
 mod stored;
-mod tally;
 
 ghost use Prim.Native.Nat.{_≤_};
-ghost use Rattle.compare.specs.Tally.{Agreeing};
+ghost use Rattle.tally.specs.Tally.{Agreeing};
 use tally::Tally;
 
 // The comparison on the page that an argument names.

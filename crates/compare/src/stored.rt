@@ -1,51 +1,10 @@
 // The comparison on stored transmit ring pages of real guests.
-ghost use mathlib.Core.Path.{_≡_};
-ghost use Prim.Native.Nat.{_*_, _≤_, _<_};
-ghost use lib.ListN.{length};
-ghost use Rattle.words.specs.Word.{splice};
-ghost use Rattle.ring.specs.Ring.{pageSize, rspProd};
-ghost use Rattle.netif.specs.Slot.{slotWidth, slotCount, transmitSlot};
-ghost use Rattle.compare.specs.Stored.{Taken, runsOf};
-ghost use Rattle.compare.specs.Tally.{Agreeing};
+ghost use Prim.Native.Nat.{_≤_};
+ghost use Rattle.runs.specs.Stored.{runsOf};
+ghost use Rattle.tally.specs.Tally.{Agreeing};
 use crate::line;
-use crate::tally;
-use crate::tally::Tally;
 use netif::DataSlot;
-
-const RSP_PROD: usize = 8;
-
-// The counter at which a stored ring was left: all slots consumed have their replies.
-fn counter(page: &[u8; 4096]) -> u32
-    ensures { λ r. ⌜ r ≡ rspProd (now (page .entry)) ⌝ }
-{
-    words::u32_at(page, RSP_PROD)
-}
-
-// Copies slot n of a page to slot i of a run.
-fn take_slot(page: &[u8], n: u32, run: &mut [u8], i: usize)
-    requires { ⌜ (length (now page) ≡ pageSize) × (i < slotCount) × (length (now run) ≡ slotWidth * slotCount) ⌝ }
-    ensures { λ _. ⌜
-        now (run .exit) ≡ splice (now (run .entry)) (slotWidth * i) (transmitSlot (now (page .entry)) n) ⌝ }
-{
-    let a = DataSlot::WIDTH * i;
-    let b = a + DataSlot::WIDTH;
-    copying::copy(
-        ring::slot(page, DataSlot::WIDTH, DataSlot::COUNT, n),
-        &mut run[a..b],
-    );
-}
-
-// Copies so many slots of a page, from a counter on, to the front of a run.
-fn take(page: &[u8], from: u32, slots: u32, run: &mut [u8])
-    requires { ⌜ (length (now page) ≡ pageSize) × (slots ≤ slotCount) × (length (now run) ≡ slotWidth * slotCount) ⌝ }
-    ensures { λ _. ⌜ Taken (now (page .entry)) from slots (now (run .exit)) ⌝ }
-{
-    let mut k: u32 = 0;
-    while k < slots {
-        take_slot(page, ring::ahead(from, k), run, k as usize);
-        k += 1;
-    }
-}
+use tally::Tally;
 
 // Reads a stored page; whether the file is exactly a page.
 fn load(name: &[u8], page: &mut [u8; 4096]) -> bool {
@@ -74,14 +33,14 @@ fn compare_run(name: &[u8], run: &[u8]) -> Tally
 fn compare_page(name: &[u8], page: &[u8; 4096]) -> Tally
     ensures { λ r. ⌜ Agreeing (runsOf (now (page .entry))) r ⌝ }
 {
-    let from = counter(page);
+    let from = runs::counter(page);
     let posted = ring::posted(page, from);
     if DataSlot::COUNT < posted {
         line::refused(name, b" overflow\n");
         return tally::none();
     }
     let mut run = [0u8; 3072];
-    take(page, from, posted, &mut run);
+    runs::take(page, from, posted, &mut run);
     let n = DataSlot::WIDTH * (posted as usize);
     compare_run(name, &run[..n])
 }

@@ -24,7 +24,7 @@ unfolding Begins BeginsProperly
 ending-only [] ending.Empty n h = refl
 ending-only [] ending.Waiting n h = absurd (h .0 refl)
 ending-only [] ending.Misshapen n h = absurd (h (nothing-begins .0, nothing-begins .2))
-ending-only (s ∷ l) ending.Empty n h = no-confusion cc
+ending-only (s ∷ l) ending.Empty n h = let none : s ∷ l ≡ [] = h in no-confusion cc
 ending-only (s ∷ l) ending.Waiting n h = rw (beginning-iff (s ∷ l) .1 (h .1))
 ending-only (s ∷ l) ending.Misshapen n h = rw (misshapen-iff (s ∷ l) .1 (h, n))
 

@@ -312,10 +312,11 @@ open-scan (s ∷ l) t d e D E false true n r =
 pub packet-rest : {s : Slot} {l : List Slot} (p : Packet (s ∷ l)) → Rest 1 0 (suc (length (p .later))) (length (p .extras)) (extraFollows s) (moreData s) l
 packet-rest {s} {l} p =
     let a : s ≡ p .first = cc (p .slots) in
+    let b : l ≡ p .extras ++ p .later = cc (p .slots) in
     record {
       extras = p .extras;
       later = p .later;
-      slots = cc (p .slots);
+      slots = b;
       extrasOwed = rw a (p .extrasOwed);
       laterOwed = rw a (p .laterOwed);
       datas = omega arith;

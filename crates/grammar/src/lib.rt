@@ -1,4 +1,4 @@
-// What the divider reads of a packet on a transmit ring. The functions are in `divider`.
+// What the divider reads of a packet on a transmit ring. The functions are in `scanning` and `divider`.
 use netif::DataSlot;
 
 // How far the slots that were read make a packet.

@@ -3,7 +3,7 @@
 use mathlib.Core.Path.{_≡_, refl, sym, ap, _∙_}
 use mathlib.Core.Bool.{Bool, true, false, cond, not}
 use mathlib.Core.List.{List, [], _∷_, map}
-use Prim.Native.Nat.{ℕ, zero, suc, _+_, _-_, _<_}
+use Prim.Native.Nat.{ℕ, zero, suc, _+_, _-_, _≤_, _<_}
 use native.Mathlib.Omega.{arith}
 use native.Mathlib.Nat.{add-assoc}
 use native.Mathlib.Numerals.{add-one}
@@ -12,7 +12,7 @@ use lib.Seq.{getD-take, take-at}
 use Rattle.words.specs.Word.{splice, bit}
 use Rattle.words.proofs.Lists.{map-at}
 use Rattle.words.proofs.Word.{no-confusion}
-use borrow.Author.Tests.{ne-eqb}
+use borrow.Author.Tests.{lt-ltb, le-ltb, ne-eqb}
 use Rattle.ring.specs.Ring.{wadd}
 use Rattle.ring.proofs.Ring.{slot-wrap, slots-at, slots-length, slots-drop}
 use Rattle.grant.specs.Grant.{inRange, fitTransmit}
@@ -33,6 +33,21 @@ use Rattle.packet.specs.Judge.{totalOf, ownPart, parts, judgeSizes, judg
 use Rattle.packet.specs.Stages.{datasOf, slotPage, partBy, slotPart, SizesOf, laterAt, HoldsParts}
 use Rattle.packet.specs.declared.Part.{Part}
 use Rattle.packet.specs.declared.Part.the-variants as part
+
+-- ---- causes 1 and 3
+
+module _ (total later : ℕ) where
+  pub sizes-short : total < 14 → Bad 1 0 ≡ judgeSizes total later
+  unfolding judgeSizes
+  sizes-short h = rw (lt-ltb total 14 h)
+
+  pub sizes-over : 14 ≤ total → total < later → Bad 3 0 ≡ judgeSizes total later
+  unfolding judgeSizes
+  sizes-over h k = rw (le-ltb total 14 h, lt-ltb total later k)
+
+  pub sizes-right : 14 ≤ total → later ≤ total → Good ≡ judgeSizes total later
+  unfolding judgeSizes
+  sizes-right h k = rw (le-ltb total 14 h, le-ltb total later k)
 
 -- ---- cause 6
 

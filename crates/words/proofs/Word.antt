@@ -147,7 +147,9 @@ pair-bytes x y h g =
     let top : (x + 65536 * y) / 16777216 ≡ y / 256 = sym (div-div-eq-div-mul (x + 65536 * y) 65536 256) ∙ ap (_/ 256) high in
     let a : (x + 65536 * y) % 256 ≡ x % 256 = omega arith in
     let b : (x + 65536 * y) / 256 % 256 ≡ x / 256 % 256 = rw low (omega arith) in
-    rw (a, b, high, top)
+    let c : (x + 65536 * y) / 65536 % 256 ≡ y % 256 = ap (_% 256) high in
+    let d : (x + 65536 * y) / 16777216 % 256 ≡ y / 256 % 256 = ap (_% 256) top in
+    λ i. a i ∷ b i ∷ c i ∷ d i ∷ []
 
 pub u16-stored : (l : List ℕ) (i x : ℕ) → i + 2 ≤ length l → u16At (splice l i (u16Bytes x)) i ≡ x % 65536
 unfolding u16At u16Bytes

@@ -2,8 +2,8 @@
 use Prim.Native.Nat.{_+_, _-_, _≤_}
 use native.Mathlib.Omega.{arith}
 use borrow.Author.Needs.{needs}
-use Rattle.compare.specs.Tally.{Agreeing}
-use Rattle.compare.proofs.Agreeing.{nothing-agrees, agrees-own, together-agrees}
+use Rattle.tally.specs.Tally.{Agreeing}
+use Rattle.tally.proofs.Agreeing.{nothing-agrees, agrees-own, together-agrees}
 use Rattle.compare.proofs.pages.Statement.{statement}
 use Rattle.compare.proofs.pages.Tie as tie
 

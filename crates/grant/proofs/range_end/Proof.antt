@@ -1,5 +1,6 @@
 -- `range_end` meets its contract: the start and the length, added.
 use borrow.Author.Needs.{needs}
+use Prim.Native.Nat.{_+_}
 use Rattle.grant.specs.Grant.{rangeEnd}
 use Rattle.grant.proofs.range_end.Statement.{statement}
 use Rattle.grant.proofs.range_end.Tie as tie
@@ -21,7 +22,7 @@ add-result c = search needs
 
 returns : tie.Need-returns
 unfolding rangeEnd
-returns c = rw (← c .before .range-start .ensures, ← c .range-length .ensures)
+returns c = λ i. c .before .range-start .ensures i + c .range-length .ensures i
 
 pub range-end-spec : {M : Type 1} → statement M
 range-end-spec =

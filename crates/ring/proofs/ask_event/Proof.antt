@@ -1,6 +1,7 @@
 -- `ask_event` meets its contract: req_prod as read, plus 1, stored at byte 4.
 use borrow.Author.Needs.{needs}
 use mathlib.Core.Path.{ap, _∙_}
+use Prim.Native.Nat.{ℕ}
 use Rattle.words.specs.Word.{splice, u32Bytes}
 use Rattle.ring.specs.Ring.{wadd, asking, withReqEvent}
 use Rattle.ring.proofs.ask_event.Statement.{statement}
@@ -22,8 +23,8 @@ returns : tie.Need-returns
 unfolding asking withReqEvent wadd
 returns c =
     let page = c .before .before .before .before .before .before .before .before .args .page .now in
-    c .before .before .put-u32 .ensures
-    ∙ ap (λ x. splice page 4 (u32Bytes x)) (c .before .before .before .before .wrapping-add-u32 .ensures ∙ rw (c .before .before .before .before .before .requests .ensures))
+    let next = c .before .before .before .before .wrapping-add-u32 .ensures ∙ ap (λ (n : ℕ). wadd n 1) (c .before .before .before .before .before .requests .ensures) in
+    c .before .before .put-u32 .ensures ∙ ap (λ x. splice page 4 (u32Bytes x)) next
 
 pub ask-event-spec : {M : Type 1} → statement M
 ask-event-spec =

@@ -3,8 +3,9 @@ use borrow.Author.Needs.{needs}
 use mathlib.Core.Path.{ap, _∙_}
 use Prim.Native.Nat.{ℕ, _+_}
 use native.Mathlib.Omega.{arith}
+use lib.Dec.{ltb}
 use Rattle.words.specs.Word.{u32At}
-use Rattle.ring.specs.Ring.{notify}
+use Rattle.ring.specs.Ring.{wsub, notify}
 use Rattle.ring.proofs.Counters.{subtracted}
 use Rattle.ring.proofs.Facts.{producer-low}
 use Rattle.ring.proofs.notify.Statement.{statement}
@@ -32,7 +33,7 @@ returns c =
     let e = c .before .before .u32-at .ensures ∙ ap (λ (p : ℕ). u32At (a .page .now) (p + 4)) (c .before .before .before .producer .ensures) in
     let x = subtracted (c .before .wrapping-sub-u32 .result) (a .new) (c .before .before .u32-at .result) (search needs) (c .before .wrapping-sub-u32 .ensures) in
     let y = subtracted (c .wrapping-sub-u322 .result) (a .new) (a .old) (search needs) (c .wrapping-sub-u322 .ensures) in
-    rw (x, y, e)
+    λ i. ltb ((x ∙ ap (wsub (a .new)) e) i) (y i)
 
 pub notify-spec : {M : Type 1} → statement M
 notify-spec =

@@ -1,6 +1,6 @@
 -- `generated::run` meets its contract: the library promises that both readers agree on every run.
 use borrow.Author.Needs.{needs}
-use Rattle.compare.proofs.Agreeing.{counted-agrees}
+use Rattle.tally.proofs.Agreeing.{counted-agrees}
 use Rattle.compare.proofs.generated.run.Statement.{statement}
 use Rattle.compare.proofs.generated.run.Tie as tie
 

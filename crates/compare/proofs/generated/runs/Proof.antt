@@ -3,8 +3,8 @@ use mathlib.Core.Path.{_≡_}
 use Prim.Native.Nat.{_-_, _≤_}
 use native.Mathlib.Omega.{arith}
 use borrow.Author.Needs.{needs}
-use Rattle.compare.specs.Tally.{Agreeing}
-use Rattle.compare.proofs.Agreeing.{nothing-agrees, together-agrees}
+use Rattle.tally.specs.Tally.{Agreeing}
+use Rattle.tally.proofs.Agreeing.{nothing-agrees, together-agrees}
 use Rattle.compare.proofs.generated.runs.Statement.{statement}
 use Rattle.compare.proofs.generated.runs.Tie as tie
 

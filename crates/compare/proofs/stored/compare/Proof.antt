@@ -7,8 +7,8 @@ use native.Mathlib.Omega.{arith}
 use borrow.Author.Needs.{needs}
 use Rattle.ring.specs.Ring.{rspProd, posted}
 use Rattle.netif.specs.Slot.{slotCount}
-use Rattle.compare.specs.Stored.{runsOf}
-use Rattle.compare.proofs.Agreeing.{agrees-own}
+use Rattle.runs.specs.Stored.{runsOf}
+use Rattle.tally.proofs.Agreeing.{agrees-own}
 use Rattle.compare.proofs.stored.compare.Statement.{statement}
 use Rattle.compare.proofs.stored.compare.Tie as tie
 

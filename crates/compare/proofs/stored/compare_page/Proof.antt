@@ -7,9 +7,9 @@ use borrow.Author.Tests.{le-leb, lt-leb}
 use borrow.Author.Needs.{needs}
 use Rattle.ring.specs.Ring.{rspProd, posted}
 use Rattle.netif.specs.Slot.{slotCount}
-use Rattle.compare.specs.Stored.{runsOf}
+use Rattle.runs.specs.Stored.{runsOf}
 use Rattle.io.proofs.Counting.{front}
-use Rattle.compare.proofs.Agreeing.{nothing-agrees}
+use Rattle.tally.proofs.Agreeing.{nothing-agrees}
 use Rattle.compare.proofs.stored.compare_page.Statement.{statement}
 use Rattle.compare.proofs.stored.compare_page.Tie as tie
 

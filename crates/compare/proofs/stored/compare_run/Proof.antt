@@ -1,6 +1,6 @@
 -- `stored::compare_run` meets its contract: the library promises that both readers agree on every run.
 use borrow.Author.Needs.{needs}
-use Rattle.compare.proofs.Agreeing.{counted-agrees}
+use Rattle.tally.proofs.Agreeing.{counted-agrees}
 use Rattle.compare.proofs.stored.compare_run.Statement.{statement}
 use Rattle.compare.proofs.stored.compare_run.Tie as tie
 

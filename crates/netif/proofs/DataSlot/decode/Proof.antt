@@ -22,7 +22,13 @@ u16-at-requires-4 c κs = search needs
 
 returns : tie.Need-returns
 unfolding dataOf gref offset flags ident size
-returns c = rw (c .before .before .before .before .u32-at .ensures, c .before .before .before .u16-at .ensures, c .before .before .u16-at2 .ensures, c .before .u16-at3 .ensures, c .u16-at4 .ensures)
+returns c = λ i. record {
+  gref = c .before .before .before .before .u32-at .ensures i;
+  offset = c .before .before .before .u16-at .ensures i;
+  flags = c .before .before .u16-at2 .ensures i;
+  id = c .before .u16-at3 .ensures i;
+  size = c .u16-at4 .ensures i;
+}
 
 pub decode-spec : {M : Type 1} → statement M
 decode-spec =

@@ -1,5 +1,6 @@
 -- `Extra::decode` meets its contract: each field is read where the definition has it.
 use borrow.Author.Needs.{needs}
+use Rattle.words.specs.Word.{byteAt}
 use Rattle.netif.specs.Slot.{gsoSize, gsoType}
 use Rattle.netif.specs.Decode.{extraOf}
 use Rattle.netif.proofs.Extra.decode.Statement.{statement}
@@ -19,7 +20,9 @@ shared-slice-read-t8 c = search needs
 
 returns : tie.Need-returns
 unfolding extraOf gsoSize gsoType
-returns c = rw (c .before .u16-at .ensures)
+returns c =
+    let b = c .before .before .before .before .before .args .b .now in
+    λ i. record { kind = byteAt b 0; flags = byteAt b 1; «gso_size» = c .before .u16-at .ensures i; «gso_type» = gsoType b }
 
 pub decode-spec : {M : Type 1} → statement M
 decode-spec =

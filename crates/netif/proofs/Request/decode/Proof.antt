@@ -13,7 +13,7 @@ u32-at-requires c κs = search needs
 
 returns : tie.Need-returns
 unfolding requestOf requestIdent requestGref
-returns c = rw (c .before .u16-at .ensures, c .u32-at .ensures)
+returns c = λ i. record { id = c .before .u16-at .ensures i; gref = c .u32-at .ensures i }
 
 pub decode-spec : {M : Type 1} → statement M
 decode-spec = tie.close (tie.spec u16-at-requires u32-at-requires returns)
