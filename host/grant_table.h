@@ -35,6 +35,17 @@ static inline void grant_table_set(uint8_t *grants, uint32_t gref, uint32_t page
     grant_table_set_range(grants, gref, page, access, 0, TOLLMEANDER_PAGE_SIZE);
 }
 
+/* The page that the word of gref names; 0 also for a word that grants nothing. */
+static inline uint32_t grant_table_page(const uint8_t *grants, uint32_t gref)
+{
+    const uint8_t *word = grants + (size_t)TOLLMEANDER_GRANT_WORD_SIZE * gref;
+    uint32_t bits = 0;
+
+    for (unsigned i = 0; i < 4; i++)
+        bits |= (uint32_t)word[i] << 8 * i;
+    return bits >> TOLLMEANDER_GRANT_PAGE_BIT;
+}
+
 /* Takes a grant back, before its page is unmapped. */
 static inline void grant_table_clear(uint8_t *grants, uint32_t gref)
 {

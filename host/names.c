@@ -1,10 +1,6 @@
 #include "names.h"
 
-#include <stddef.h>
-
-#include "tollmeander.h"
-
-static const char *const answers[] = {
+static const char *const answers[TOLLMEANDER_NAMED_ANSWERS] = {
     [TOLLMEANDER_DONE] = "done",
     [TOLLMEANDER_BAD_PAGE] = "bad page",
     [TOLLMEANDER_HALTED] = "halted",
@@ -21,7 +17,7 @@ static const char *const answers[] = {
     [TOLLMEANDER_BAD_GSO] = "bad gso"
 };
 
-static const char *const causes[] = {
+static const char *const causes[TOLLMEANDER_NAMED_CAUSES] = {
     [0] = "none",
     [TOLLMEANDER_CAUSE_SHORT] = "frame too short",
     [TOLLMEANDER_CAUSE_LONG] = "reserved",
@@ -31,17 +27,12 @@ static const char *const causes[] = {
     [TOLLMEANDER_CAUSE_GSO] = "bad gso"
 };
 
-static const char *name(const char *const *names, size_t count, uint32_t number)
-{
-    return number < count ? names[number] : "unknown";
-}
-
 const char *tollmeander_answer_name(uint32_t answer)
 {
-    return name(answers, sizeof answers / sizeof answers[0], answer);
+    return answer < TOLLMEANDER_NAMED_ANSWERS ? answers[answer] : "unknown";
 }
 
 const char *tollmeander_cause_name(uint32_t cause)
 {
-    return name(causes, sizeof causes / sizeof causes[0], cause);
+    return cause < TOLLMEANDER_NAMED_CAUSES ? causes[cause] : "unknown";
 }

@@ -4,6 +4,12 @@
 
 #include <stdint.h>
 
+#include "tollmeander.h"
+
+/* Answers and causes below these numbers have names. */
+#define TOLLMEANDER_NAMED_ANSWERS   (TOLLMEANDER_BAD_GSO + 1u)
+#define TOLLMEANDER_NAMED_CAUSES    (TOLLMEANDER_CAUSE_GSO + 1u)
+
 #ifdef __cplusplus
 extern "C" {
 #endif

@@ -4,11 +4,12 @@
 
 #include <stdint.h>
 
+#include "names.h"
 #include "tollmeander.h"
 
 enum {
-    COUNTERS_ANSWERS = TOLLMEANDER_BAD_GSO + 2,     /* the last is for unknown ones */
-    COUNTERS_CAUSES = TOLLMEANDER_CAUSE_GSO + 2
+    COUNTERS_ANSWERS = TOLLMEANDER_NAMED_ANSWERS + 1,   /* the last is for unknown ones */
+    COUNTERS_CAUSES = TOLLMEANDER_NAMED_CAUSES + 1
 };
 
 /* Answers of one ring, by number, and causes of those that are SPOILED. */

@@ -53,17 +53,6 @@ static uint32_t page_of_slot(const struct page_words *words, uint32_t n)
     return words->first_page + n % SLOTS;
 }
 
-/* The page that a reference's word names: another slot's, if a later one named it too. */
-static uint32_t page_of_reference(const struct page_words *words, uint32_t reference)
-{
-    const uint8_t *word = words->word + (size_t)TOLLMEANDER_GRANT_WORD_SIZE * reference;
-    uint32_t bits = 0;
-
-    for (unsigned i = 0; i < 4; i++)
-        bits |= (uint32_t)word[i] << 8 * i;
-    return bits >> TOLLMEANDER_GRANT_PAGE_BIT;
-}
-
 static uint8_t *at_page(const struct pages *pages, uint32_t page)
 {
     return pages->window + (size_t)PAGE * page;
@@ -130,7 +119,7 @@ static void plan_copy_out(const struct pages *pages, const struct back_ring *rin
     uint32_t reference = back_ring_reference(ring, n);
 
     memset(copy, 0, sizeof *copy);
-    copy->source.virt = at_page(pages, page_of_reference(&pages->receive, reference));
+    copy->source.virt = at_page(pages, grant_table_page(pages->receive.word, reference));
     copy->dest.foreign.ref = reference;
     copy->dest.foreign.domid = pages->domid;
     copy->len = (uint16_t)length;
@@ -164,7 +153,7 @@ static void clear_words(struct page_words *words, const struct back_ring *ring, 
         uint32_t reference = back_ring_reference(ring, n);
 
         if (reference < PAGES_REFERENCES &&
-            page_of_reference(words, reference) == page_of_slot(words, n))
+            grant_table_page(words->word, reference) == page_of_slot(words, n))
             grant_table_clear(words->word, reference);
     }
 }

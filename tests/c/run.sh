@@ -71,5 +71,7 @@ check 'host: in steps, transmit, slots rewritten, thread sanitizer' brief \
 check 'host: in steps, receive, requests rewritten, thread sanitizer' brief \
       program tsan/hostile_receive 10000 2 steps
 check 'host: pages back before replies, thread sanitizer' brief program tsan/returned 20000
+check 'live: the judge refuses what it must' brief tests/live/judge_test.sh
+check 'xen: compiled, where libxen-dev is there' brief tests/live/compile.sh "$lib"
 check 'demo: table, counts, options' brief demo
 check_result tests

@@ -280,6 +280,7 @@ static void grant_words_are_laid_out(void)
     grant_table_set_range(table, 1, 0x3FFFFFFF, TOLLMEANDER_GRANTED | TOLLMEANDER_GRANT_WRITABLE,
                           0x0102, 0x0304);
     CHECK(memcmp(table + sizeof whole, range, sizeof range) == 0);
+    CHECK(grant_table_page(table, 1) == 0x3FFFFFFF);
     grant_table_clear(table, 1);
     CHECK(memcmp(table + sizeof whole, none, sizeof none) == 0);
     CHECK(table[sizeof whole - 1] == 0xEE && table[2 * sizeof whole] == 0xEE);

@@ -287,6 +287,8 @@ static void answers_have_names(void)
         "part leaves its range", "bad gso", "unknown"
     };
 
+    CHECK(sizeof answers / sizeof answers[0] == TOLLMEANDER_NAMED_ANSWERS + 1);
+    CHECK(sizeof causes / sizeof causes[0] == TOLLMEANDER_NAMED_CAUSES + 1);
     for (uint32_t i = 0; i < sizeof answers / sizeof answers[0]; i++)
         CHECK(strcmp(tollmeander_answer_name(i), answers[i]) == 0);
     for (uint32_t i = 0; i < sizeof causes / sizeof causes[0]; i++)
