@@ -276,6 +276,26 @@ static void every_answer_has_a_next(void)
     CHECK(back_ring_next(UINT32_MAX) == BACK_MEND);
 }
 
+/* The loop of back_ring.h with a buffer that is too short: mended once, and nothing is lost. */
+static void no_room_is_mended(void)
+{
+    uint32_t calls = 0, done = 0;
+    size_t room = FRAME_SIZE - 1;
+    enum back_next next;
+
+    open_both(COUNTER);
+    post_packet(COUNTER, GREF, 1);
+    post_packet(COUNTER + 1, GREF, 2);
+    do {
+        done += back_transmit_take(&transmit, &granted, frame, room, &report) == TOLLMEANDER_DONE;
+        next = back_ring_next(report.answer);
+        if (next == BACK_MEND)
+            room = sizeof frame;
+        calls++;
+    } while (next == BACK_GO_ON || (next == BACK_MEND && calls < 2));
+    CHECK(done == 2 && calls == 4 && next == BACK_SLEEP);
+}
+
 static void answers_have_names(void)
 {
     static const char *const answers[] = {
@@ -310,6 +330,7 @@ int main(void)
     opening_twice_is_refused();
     not_open_is_halted();
     every_answer_has_a_next();
+    no_room_is_mended();
     answers_have_names();
     return check_result("steps");
 }
