@@ -14,7 +14,7 @@ LIVE ?= $(BUILD)/live
 LIVE_SANITIZE ?=
 
 XEN_PROGRAM := $(BUILD)/tollmeander-xen
-XEN_PARTS := $(addprefix xen/,main vifs vif queue pages outbox answerer counters table store xen) \
+XEN_PARTS := $(addprefix xen/,main vifs vif queue device pages outbox answerer counters table store xen) \
              host/back_ring host/names
 XEN_SANITIZE := $(if $(LIVE_SANITIZE),-fsanitize=address -fsanitize=undefined -fno-sanitize-recover=all)
 XEN_FLAGS := $(C_FLAGS) -Ixen -O2 -g -D_POSIX_C_SOURCE=200809L $(XEN_SANITIZE) \
@@ -24,8 +24,7 @@ XEN_LIB := $(XEN)/usr/lib/x86_64-linux-gnu
 XEN_LINK := $(if $(XEN),-L$(XEN_LIB) -Xlinker -rpath-link -Xlinker $(XEN_LIB)) -lxenstore -lxengnttab -lxenevtchn \
             $(XEN_SANITIZE) $(if $(LIVE_SANITIZE),-static-libasan -static-libubsan)
 XEN_HEADERS := xenstore.h xengnttab.h xenevtchn.h
-XEN_TEST_PARTS := $(addprefix tests/live/,queue_test pretend) \
-                  $(addprefix xen/,queue pages outbox answerer counters) host/back_ring
+XEN_TEST_PARTS := $(addprefix tests/live/,queue_test pretend) $(filter-out xen/main xen/xen,$(XEN_PARTS))
 XEN_OBJECTS := $(patsubst %,$(BUILD)/xen/%.o,$(sort $(XEN_PARTS) $(XEN_TEST_PARTS)))
 
 .PHONY: xen xen-there xen-objects xen-test live

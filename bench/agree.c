@@ -22,33 +22,63 @@ static bool windows_agree(const struct scene scenes[2])
     return memcmp(scenes[0].window, scenes[1].window, sizeof scenes[0].window) == 0;
 }
 
+static bool words_agree(const struct queue queues[2])
+{
+    const struct queue *a = &queues[0], *b = &queues[1];
+
+    return a->counter == b->counter && a->replied == b->replied && a->halted == b->halted &&
+           memcmp(&a->report, &b->report, sizeof a->report) == 0 &&
+           memcmp(&a->finished, &b->finished, sizeof a->finished) == 0;
+}
+
 /* What the two have left differently, or NULL. The window is compared at the end. */
 static const char *difference(const struct scene scenes[2], const struct queue queues[2])
 {
-    if (memcmp(&queues[0], &queues[1], sizeof queues[0]) != 0)
-        return "counter, mark or report";
+    if (!words_agree(queues))
+        return "counters, mark or report";
     if (memcmp(scenes[0].rings[0], scenes[1].rings[0], sizeof scenes[0].rings[0]) != 0)
         return "ring page";
+    if (memcmp(scenes[0].held[0], scenes[1].held[0], sizeof scenes[0].held[0]) != 0)
+        return "records";
     if (!frames_agree(scenes))
         return "frame buffer";
     return NULL;
 }
 
+/* The answer in the report of the last call. */
+static uint32_t told(const struct row *row, const struct queue *queue)
+{
+    bool finishes = row->way == LEAVE ||
+                    (row->way == TRANSMIT && row->answer == TOLLMEANDER_DONE);
+
+    return finishes ? queue->finished.answer : queue->report.answer;
+}
+
+/* Whether as many slots are held after a call as its row says. */
+static bool holds_as_told(const struct row *row, const struct queue *queue)
+{
+    uint32_t held_slots = queue->counter - queue->replied;
+
+    if (row->way == LEAVE)
+        return held_slots == 0;
+    return row->way != TRANSMIT || held_slots == row->held;
+}
+
 static bool calls_agree(struct scene scenes[2])
 {
     const struct row *row = scenes[0].row;
-    struct queue queues[2] = { { .counter = scenes[0].counter },
-                               { .counter = scenes[1].counter } };
+    struct queue queues[2] = { queue_on(&scenes[0], 0), queue_on(&scenes[1], 0) };
 
     for (uint32_t call = 0; call < scenes[0].calls; call++) {
         const char *what;
 
         for (int i = 0; i < 2; i++) {
-            uint32_t answer = make_call(&scenes[i], scenes[i].rings[0], &calls_of[i],
-                                        &queues[i]);
+            uint32_t answer = make_call(&scenes[i], &calls_of[i], &queues[i]);
 
-            if (answer != row->answer || queues[i].report.answer != answer)
+            if (answer != row->answer || told(row, &queues[i]) != answer)
                 return complain(row, call, "answer");
+            if (!holds_as_told(row, &queues[i]))
+                return complain(row, call, "slots held");
         }
         what = difference(scenes, queues);
         if (what != NULL)

@@ -31,6 +31,7 @@ static const struct pace quick = { 4, 0.02, 0.006 };
 struct options {
     const struct pace *pace;
     const char *instructions;
+    bool agree;
     bool count;
 };
 
@@ -41,10 +42,12 @@ static struct results results;
 static int usage(void)
 {
     fprintf(stderr, "usage: bench [--quick] [--instructions FILE]\n"
+                    "       bench --agree\n"
                     "       bench --count\n\n"
                     "  --quick               a few seconds, and less exact\n"
                     "  --instructions FILE   instructions a call: for each case the library's\n"
                     "                        number, then plain C's\n"
+                    "  --agree               only checks that both leave the same in every row\n"
                     "  --count               only makes the calls, for callgrind to count them\n");
     return 2;
 }
@@ -54,6 +57,8 @@ static bool read_options(struct options *options, int argc, char **argv)
     for (int i = 1; i < argc; i++) {
         if (strcmp(argv[i], "--quick") == 0)
             options->pace = &quick;
+        else if (strcmp(argv[i], "--agree") == 0)
+            options->agree = true;
         else if (strcmp(argv[i], "--count") == 0)
             options->count = true;
         else if (strcmp(argv[i], "--instructions") == 0 && i + 1 < argc)
@@ -70,7 +75,7 @@ static void count(void)
     for (int i = 0; i < CASE_ROWS; i++)
         for (int by = LIBRARY; by <= PLAIN; by++) {
             scene_make(&scenes[0], &results.cases[i].row, 0);
-            drain_ring(&scenes[0], scenes[0].rings[0], &calls_of[by]);
+            drain_ring(&scenes[0], 0, &calls_of[by]);
             printf("%u\n", (unsigned)scenes[0].calls);
         }
 }
@@ -133,6 +138,10 @@ int main(int argc, char **argv)
     read_instructions(options.instructions);
     if (!all_agree())
         return 1;
+    if (options.agree) {
+        printf("bench: %d rows agree\n", CASE_ROWS + SLOT_ROWS + 2 * BYTE_ROWS);
+        return 0;
+    }
     stay();
     measure_all(options.pace);
     printf("plain C: %s\n\n", BENCH_PLAIN);

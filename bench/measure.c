@@ -4,6 +4,7 @@
 #include <sched.h>
 #include <stdio.h>
 #include <stdlib.h>
+#include <string.h>
 #include <time.h>
 
 #include "plain.h"
@@ -21,9 +22,10 @@ enum {
 };
 
 const struct calls calls_of[MEMCPY] = {
-    [LIBRARY] = { "library", tollmeander_transmit_take, tollmeander_receive_put,
-                  tollmeander_transmit_post },
-    [PLAIN] = { "plain C", plain_transmit_take, plain_receive_put, plain_transmit_post },
+    [LIBRARY] = { "library", tollmeander_transmit_take, tollmeander_transmit_finish,
+                  tollmeander_receive_put, tollmeander_transmit_post },
+    [PLAIN] = { "plain C", plain_transmit_take, plain_transmit_finish, plain_receive_put,
+                plain_transmit_post },
 };
 
 void stay(void)
@@ -47,12 +49,56 @@ static double now(void)
     return (double)time.tv_sec * SECOND_NS + (double)time.tv_nsec;
 }
 
+struct queue queue_on(struct scene *scene, int ring)
+{
+    return (struct queue){
+        .ring = scene->rings[ring],
+        .held = scene->held[ring],
+        .counter = scene->counter + scene->row->held,
+        .replied = scene->counter,
+    };
+}
+
+/* Finishes the oldest packet, whose first slot is the next to be replied to. */
+static uint32_t make_finish(const struct scene *scene, const struct calls *calls,
+                            struct queue *queue)
+{
+    return calls->finish(queue->counter, &queue->replied, queue->ring, TOLLMEANDER_PAGE_SIZE,
+                         queue->held, scene->row->records, queue->replied,
+                         TOLLMEANDER_REPLY_OKAY, &queue->finished);
+}
+
+static uint32_t make_take(struct scene *scene, const struct calls *calls, struct queue *queue)
+{
+    uint32_t answer = calls->take(&queue->counter, &queue->replied, &queue->halted, queue->ring,
+                                  TOLLMEANDER_PAGE_SIZE, scene->grants, sizeof scene->grants,
+                                  scene->window, sizeof scene->window, queue->held,
+                                  scene->row->records, scene->frame, scene->frame_len,
+                                  &queue->report);
+
+    return answer == TOLLMEANDER_DONE ? make_finish(scene, calls, queue) : answer;
+}
+
+/* Lends the records again as they were before the call before. */
+static uint32_t make_leave(struct scene *scene, const struct calls *calls, struct queue *queue)
+{
+    memcpy(queue->held, scene->before, scene->row->held * sizeof scene->before[0]);
+    queue->replied = scene->counter;
+    return make_finish(scene, calls, queue);
+}
+
+static uint32_t make_put(struct scene *scene, const struct calls *calls, struct queue *queue)
+{
+    return calls->put(&queue->counter, &queue->halted, queue->ring, TOLLMEANDER_PAGE_SIZE,
+                      scene->grants, sizeof scene->grants, scene->window, sizeof scene->window,
+                      scene->frame, scene->frame_len, &queue->report);
+}
+
 /* Posts a frame in pages of its own. No reply is read: the ring is full in the end. */
-static uint32_t make_post(struct scene *scene, uint8_t *ring, const struct calls *calls,
-                          struct queue *queue)
+static uint32_t make_post(struct scene *scene, const struct calls *calls, struct queue *queue)
 {
     const struct row *row = scene->row;
-    uint32_t answer = calls->post(scene->counter, ring, TOLLMEANDER_PAGE_SIZE, scene->grants,
+    uint32_t answer = calls->post(scene->counter, queue->ring, TOLLMEANDER_PAGE_SIZE, scene->grants,
                                   sizeof scene->grants, scene->window, sizeof scene->window,
                                   scene->references + queue->counter % SCENE_PAGES,
                                   row->data_slots, scene->frame, scene->frame_len, row->extras,
@@ -62,32 +108,27 @@ static uint32_t make_post(struct scene *scene, uint8_t *ring, const struct calls
     return answer;
 }
 
-uint32_t make_call(struct scene *scene, uint8_t *ring, const struct calls *calls,
-                   struct queue *queue)
+uint32_t make_call(struct scene *scene, const struct calls *calls, struct queue *queue)
 {
     if (scene->row->way == TRANSMIT)
-        return calls->take(&queue->counter, &queue->halted, ring, TOLLMEANDER_PAGE_SIZE,
-                           scene->grants, sizeof scene->grants, scene->window,
-                           sizeof scene->window, scene->frame, scene->frame_len,
-                           &queue->report);
+        return make_take(scene, calls, queue);
+    if (scene->row->way == LEAVE)
+        return make_leave(scene, calls, queue);
     if (scene->row->way == RECEIVE)
-        return calls->put(&queue->counter, &queue->halted, ring, TOLLMEANDER_PAGE_SIZE,
-                          scene->grants, sizeof scene->grants, scene->window,
-                          sizeof scene->window, scene->frame, scene->frame_len,
-                          &queue->report);
-    return make_post(scene, ring, calls, queue);
+        return make_put(scene, calls, queue);
+    return make_post(scene, calls, queue);
 }
 
 /* Not inlined: callgrind is told to write its counts down after each call of this function. */
 __attribute__((noinline))
-void drain_ring(struct scene *scene, uint8_t *ring, const struct calls *calls)
+void drain_ring(struct scene *scene, int ring, const struct calls *calls)
 {
-    struct queue queue = { .counter = scene->counter };
+    struct queue queue = queue_on(scene, ring);
     uint32_t answer = scene->row->answer;
     uint32_t wrong = 0;
 
     for (uint32_t left = scene->calls; left > 0; left--)
-        wrong |= make_call(scene, ring, calls, &queue) ^ answer;
+        wrong |= make_call(scene, calls, &queue) ^ answer;
     if (wrong == 0)
         return;
     fprintf(stderr, "bench: %s: an answer of %s is not %u\n", scene->row->name, calls->name,
@@ -106,7 +147,7 @@ static double time_batch(struct scene *scene, int contender)
         if (contender == MEMCPY)
             scene_copy(scene);
         else
-            drain_ring(scene, scene->rings[i], &calls_of[contender]);
+            drain_ring(scene, i, &calls_of[contender]);
     }
     return now() - start;
 }

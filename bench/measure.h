@@ -9,11 +9,14 @@
 /* Those who are measured; the last makes the copies and nothing else. */
 enum { LIBRARY, PLAIN, MEMCPY, CONTENDERS };
 
-/* Three calls of the header's form. */
+/* Four calls of the header's form. */
 struct calls {
     const char *name;
-    uint32_t (*take)(uint32_t *, uint32_t *, uint8_t *, size_t, const uint8_t *, size_t,
-                     const uint8_t *, size_t, uint8_t *, size_t, struct tollmeander_report *);
+    uint32_t (*take)(uint32_t *, uint32_t *, uint32_t *, uint8_t *, size_t, const uint8_t *,
+                     size_t, const uint8_t *, size_t, struct tollmeander_held *, size_t, uint8_t *,
+                     size_t, struct tollmeander_report *);
+    uint32_t (*finish)(uint32_t, uint32_t *, uint8_t *, size_t, struct tollmeander_held *, size_t,
+                       uint32_t, int32_t, struct tollmeander_report *);
     uint32_t (*put)(uint32_t *, uint32_t *, uint8_t *, size_t, const uint8_t *, size_t,
                     uint8_t *, size_t, const uint8_t *, size_t, struct tollmeander_report *);
     uint32_t (*post)(uint32_t, uint8_t *, size_t, const uint8_t *, size_t, uint8_t *, size_t,
@@ -26,9 +29,13 @@ extern const struct calls calls_of[MEMCPY];
 
 /* A queue that calls are made on. */
 struct queue {
+    uint8_t *ring;
+    struct tollmeander_held *held;
     uint32_t counter;           /* slots consumed; by posts, slots posted */
+    uint32_t replied;
     uint32_t halted;
     struct tollmeander_report report;
+    struct tollmeander_report finished;         /* of a finish */
 };
 
 /* Nanoseconds a call, a number to each round. */
@@ -48,12 +55,14 @@ struct result {
 /* Keeps the program on the processor that it is on. */
 void stay(void);
 
-/* Makes one call on a ring of the scene; its answer. */
-uint32_t make_call(struct scene *scene, uint8_t *ring, const struct calls *calls,
-                   struct queue *queue);
+/* The queue of a ring of the scene, before the first call. */
+struct queue queue_on(struct scene *scene, int ring);
+
+/* Makes one call of the row, which may be a take and a finish; its answer. */
+uint32_t make_call(struct scene *scene, const struct calls *calls, struct queue *queue);
 
 /* Makes all calls on a ring. Ends the program if an answer is not the row's. */
-void drain_ring(struct scene *scene, uint8_t *ring, const struct calls *calls);
+void drain_ring(struct scene *scene, int ring, const struct calls *calls);
 
 /*
  * Measures a row for so long, in rounds of all contenders in turn, and adds to its

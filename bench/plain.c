@@ -1,10 +1,11 @@
 /*
- * The three calls in plain C, with memcpy, as one would write them by hand.
+ * The four calls in plain C, with memcpy, as one would write them by hand.
  *
- * A slot is read once, into a value, and that value decides: a guest that
- * rewrites the page meanwhile gets no access that it is not granted. Nothing is
- * written before everything is tested. A packet of one slot and a frame of one
- * page, which most are, take a path without loops and tables.
+ * A slot is read once, into a value, and that value decides; its id is read when
+ * the reply leaves. So a guest that rewrites the page meanwhile gets no access that
+ * it is not granted. Nothing is written before everything is tested. A packet of
+ * one slot and a frame of one page, which most are, take a path without tables of
+ * slots or pages. records.h has the list of held packets.
  */
 #include "plain.h"
 
@@ -12,6 +13,7 @@
 #include <string.h>
 
 #include "octets.h"
+#include "records.h"
 
 enum {
     FLAG_CHECKSUM_BLANK = 1,
@@ -32,7 +34,8 @@ enum {
 
 /* What all calls are lent. */
 struct lent {
-    uint32_t *consumed;         /* by take and put; post has no such counter */
+    uint32_t *consumed;         /* by take and put */
+    uint32_t *replied;          /* by take and finish; by put the one above */
     uint8_t *ring;
     const uint8_t *grants;
     size_t grant_words;
@@ -45,7 +48,6 @@ struct data_slot {
     uint32_t gref;
     uint16_t offset;
     uint16_t flags;
-    uint16_t id;
     uint16_t size;
 };
 
@@ -72,11 +74,7 @@ struct part {
     size_t length;
 };
 
-/*
- * The part of the window that a piece of a frame goes to. Where gcc sees that a
- * length is at most a page, it copies by "rep movsq" and not by memcpy, which
- * takes twice as long for 64 bytes; of a length from a table it knows nothing.
- */
+/* A part of the window that a piece of a frame goes to. */
 struct piece {
     uint8_t *to;
     size_t length;
@@ -154,21 +152,19 @@ static uint32_t ask_event(const struct lent *lent, uint32_t req_prod, uint32_t a
     return tell(lent->report, answer);
 }
 
-/* Moves the counter and rsp_prod past slots that are replied to; whether to notify. */
+/* Moves counter and rsp_prod past slots that are replied to; whether to notify. */
 static bool publish(const struct lent *lent, uint32_t slots)
 {
-    uint32_t new = *lent->consumed + slots;
+    uint32_t new = *lent->replied + slots;
 
-    *lent->consumed = new;
+    *lent->replied = new;
     put32(lent->ring + TOLLMEANDER_RING_RSP_PROD, new);
     return new - get32(lent->ring + TOLLMEANDER_RING_RSP_EVENT) < slots;
 }
 
-/* Ends a call whose slots are replied to with an error. */
-static uint32_t spoil(const struct lent *lent, struct verdict verdict, uint32_t slots)
+/* Ends a call whose slots get an error for a reply. */
+static uint32_t spoil(const struct lent *lent, struct verdict verdict, uint32_t slots, bool notify)
 {
-    bool notify = publish(lent, slots);
-
     *lent->report = (struct tollmeander_report){
         .answer = TOLLMEANDER_SPOILED,
         .cause = verdict.cause,
@@ -185,7 +181,6 @@ static struct data_slot read_data_slot(const uint8_t *from)
         .gref = get32(from),
         .offset = get16(from + 4),
         .flags = get16(from + 6),
-        .id = get16(from + 8),
         .size = get16(from + 10),
     };
 }
@@ -316,113 +311,209 @@ static void gather(const struct part *parts, uint32_t count, uint8_t *frame)
     }
 }
 
-static void reply_transmit(uint8_t *ring, uint32_t n, uint16_t id, int16_t status)
+/* Replies to a data slot with the id that stands in it. */
+static void reply_data(uint8_t *ring, uint32_t n, int32_t status)
 {
-    put32(transmit_slot(ring, n), id | (uint32_t)(uint16_t)status << 16);
+    uint8_t *slot = transmit_slot(ring, n);
+
+    put32(slot, get16(slot + 8) | (uint32_t)status << 16);
 }
 
 /* Replies to every slot of a packet, the first of which has counter n. */
-static void reply_packet(uint8_t *ring, uint32_t n, const struct packet *packet, int16_t status)
+static void reply_packet(uint8_t *ring, uint32_t n, uint32_t slots, uint32_t extras,
+                         int32_t status)
 {
-    reply_transmit(ring, n, packet->data[0].id, status);
-    for (uint32_t i = 0; i < packet->extras; i++)
-        reply_transmit(ring, ++n, 0, TOLLMEANDER_REPLY_NULL);
-    for (uint32_t i = 1; i < packet->data_slots; i++)
-        reply_transmit(ring, ++n, packet->data[i].id, status);
+    reply_data(ring, n, status);
+    for (uint32_t i = 1; i <= extras; i++)
+        put32(transmit_slot(ring, n + i), (uint32_t)TOLLMEANDER_REPLY_NULL << 16);
+    for (uint32_t i = 1 + extras; i < slots; i++)
+        reply_data(ring, n + i, status);
 }
 
-/* Ends a call whose packet is in the frame and replied to. */
-static uint32_t hand_over(const struct lent *lent, const struct data_slot *head, uint32_t slots,
+/* Consumes a packet into the first free record. */
+static void hold(const struct lent *lent, const struct records *records,
+                 struct tollmeander_held held)
+{
+    records->list[records->first_free] = held;
+    *lent->consumed += held.slots;
+}
+
+/* Ends a call whose packet is in the frame: it is held until it is finished. */
+static uint32_t hand_over(const struct lent *lent, const struct records *records,
+                          const struct data_slot *head, uint32_t slots, uint32_t extras,
                           uint32_t gso_size, uint32_t gso_type)
 {
-    bool notify = publish(lent, slots);
+    uint32_t ticket = *lent->consumed;
 
+    hold(lent, records, (struct tollmeander_held){ ticket, slots, extras,
+                                                   TOLLMEANDER_REPLY_OKAY, 0 });
     *lent->report = (struct tollmeander_report){
         .answer = TOLLMEANDER_DONE,
         .slots = slots,
-        .notify = notify,
         .total = head->size,
         .checksum_blank = head->flags & FLAG_CHECKSUM_BLANK ? 1 : 0,
         .data_validated = head->flags & FLAG_DATA_VALIDATED ? 1 : 0,
         .gso_size = gso_size,
         .gso_type = gso_type,
+        .ticket = ticket,
     };
     return TOLLMEANDER_DONE;
 }
 
-/* Takes a packet of one slot. */
-static uint32_t take_one(const struct lent *lent, const struct data_slot *slot,
-                         const uint8_t *window, uint8_t *frame, size_t frame_len)
+/* Refuses a packet. It leaves at once if nothing is held, else behind those that are. */
+static uint32_t refuse(const struct lent *lent, const struct records *records,
+                       struct verdict verdict, uint32_t slots, uint32_t extras)
 {
     uint32_t n = *lent->consumed;
+    bool notify = false;
+
+    if (is_full(records))
+        return tell(lent->report, TOLLMEANDER_NO_RECORD);
+    hold(lent, records, (struct tollmeander_held){ n, slots, extras, TOLLMEANDER_REPLY_ERROR, 1 });
+    if (records->held_slots == 0) {
+        reply_packet(lent->ring, n, slots, extras, TOLLMEANDER_REPLY_ERROR);
+        records->list[records->first_free] = (struct tollmeander_held){ 0 };
+        notify = publish(lent, slots);
+    }
+    return spoil(lent, verdict, slots, notify);
+}
+
+/* Takes a packet of one slot. */
+static uint32_t take_one(const struct lent *lent, const struct records *records,
+                         const struct data_slot *slot, const uint8_t *window, uint8_t *frame,
+                         size_t frame_len)
+{
     uint32_t cause = judge_sizes(slot->size, 0);
     struct part part;
 
     if (cause == 0)
         cause = find_part(lent, window, slot, slot->size, &part);
-    if (cause != 0) {
-        reply_transmit(lent->ring, n, slot->id, TOLLMEANDER_REPLY_ERROR);
-        return spoil(lent, (struct verdict){ cause, 0 }, 1);
-    }
+    if (cause != 0)
+        return refuse(lent, records, (struct verdict){ cause, 0 }, 1, 0);
     if (frame_len < slot->size)
         return tell(lent->report, TOLLMEANDER_NO_ROOM);
+    if (is_full(records))
+        return tell(lent->report, TOLLMEANDER_NO_RECORD);
     memcpy(frame, part.from, part.length);
-    reply_transmit(lent->ring, n, slot->id, TOLLMEANDER_REPLY_OKAY);
-    return hand_over(lent, slot, 1, 0, 0);
+    return hand_over(lent, records, slot, 1, 0, 0, 0);
 }
 
 /* Takes a whole packet of any number of slots. */
-static uint32_t take_all(const struct lent *lent, const struct packet *packet,
-                         const uint8_t *window, uint8_t *frame, size_t frame_len)
+static uint32_t take_all(const struct lent *lent, const struct records *records,
+                         const struct packet *packet, const uint8_t *window, uint8_t *frame,
+                         size_t frame_len)
 {
-    uint32_t n = *lent->consumed;
     uint32_t slots = packet->data_slots + packet->extras;
     struct part parts[TOLLMEANDER_PACKET_DATA_MAX];
     struct verdict verdict = judge(lent, window, packet, parts);
 
-    if (verdict.cause != 0) {
-        reply_packet(lent->ring, n, packet, TOLLMEANDER_REPLY_ERROR);
-        return spoil(lent, verdict, slots);
-    }
+    if (verdict.cause != 0)
+        return refuse(lent, records, verdict, slots, packet->extras);
     if (frame_len < packet->data[0].size)
         return tell(lent->report, TOLLMEANDER_NO_ROOM);
+    if (is_full(records))
+        return tell(lent->report, TOLLMEANDER_NO_RECORD);
     gather(parts, packet->data_slots, frame);
-    reply_packet(lent->ring, n, packet, TOLLMEANDER_REPLY_OKAY);
-    return hand_over(lent, &packet->data[0], slots, packet->gso_size, packet->gso_type);
+    return hand_over(lent, records, &packet->data[0], slots, packet->extras, packet->gso_size,
+                     packet->gso_type);
 }
 
-uint32_t plain_transmit_take(uint32_t *consumed, uint32_t *halted,
+/* Takes the packet at the counter, if a whole one is posted. */
+static uint32_t take_posted(const struct lent *lent, const struct records *records,
+                            uint32_t *halted, uint32_t req_prod, const uint8_t *window,
+                            uint8_t *frame, size_t frame_len)
+{
+    uint32_t first = *lent->consumed;
+    uint32_t posted = req_prod - first;
+    struct packet packet;
+    struct data_slot head;
+    uint32_t shape;
+
+    if (posted == 0)
+        return ask_event(lent, req_prod, TOLLMEANDER_EMPTY);
+    head = read_data_slot(transmit_slot(lent->ring, first));
+    if (!(head.flags & (FLAG_MORE_DATA | FLAG_EXTRA_FOLLOWS)))
+        return take_one(lent, records, &head, window, frame, frame_len);
+    shape = read_packet(lent->ring, first, posted, head, &packet);
+    if (shape == TOLLMEANDER_MISSHAPEN)
+        return halt(halted, lent->report, TOLLMEANDER_MISSHAPEN);
+    if (shape == TOLLMEANDER_WAITING)
+        return ask_event(lent, req_prod, TOLLMEANDER_WAITING);
+    return take_all(lent, records, &packet, window, frame, frame_len);
+}
+
+uint32_t plain_transmit_take(uint32_t *consumed, uint32_t *replied, uint32_t *halted,
                              uint8_t *ring, size_t ring_len,
                              const uint8_t *grants, size_t grants_len,
                              const uint8_t *window, size_t window_len,
+                             struct tollmeander_held *held, size_t held_len,
                              uint8_t *frame, size_t frame_len,
                              struct tollmeander_report *report)
 {
-    const struct lent lent = { consumed, ring, grants, grants_len / TOLLMEANDER_GRANT_WORD_SIZE,
+    const struct lent lent = { consumed, replied, ring, grants,
+                               grants_len / TOLLMEANDER_GRANT_WORD_SIZE,
                                window_len / TOLLMEANDER_PAGE_SIZE, report };
-    struct packet packet;
-    struct data_slot head;
-    uint32_t req_prod, posted, shape;
+    struct records records;
+    uint32_t req_prod, unanswered;
 
     if (ring_len != TOLLMEANDER_PAGE_SIZE)
         return tell(report, TOLLMEANDER_BAD_PAGE);
+    if (!read_records(&records, held, held_len, *consumed, *replied))
+        return tell(report, TOLLMEANDER_BAD_RECORDS);
     if (*halted)
         return tell(report, TOLLMEANDER_HALTED);
     req_prod = get32(ring + TOLLMEANDER_RING_REQ_PROD);
-    posted = req_prod - *consumed;
-    if (posted > TOLLMEANDER_RING_SLOTS)
+    unanswered = req_prod - *replied;
+    if (unanswered > TOLLMEANDER_RING_SLOTS || unanswered < records.held_slots)
         return halt(halted, report, TOLLMEANDER_OVERFLOW);
-    if (posted == 0)
-        return ask_event(&lent, req_prod, TOLLMEANDER_EMPTY);
-    head = read_data_slot(transmit_slot(ring, *consumed));
-    if (!(head.flags & (FLAG_MORE_DATA | FLAG_EXTRA_FOLLOWS)))
-        return take_one(&lent, &head, window, frame, frame_len);
-    shape = read_packet(ring, *consumed, posted, head, &packet);
-    if (shape == TOLLMEANDER_MISSHAPEN)
-        return halt(halted, report, TOLLMEANDER_MISSHAPEN);
-    if (shape == TOLLMEANDER_WAITING)
-        return ask_event(&lent, req_prod, TOLLMEANDER_WAITING);
-    return take_all(&lent, &packet, window, frame, frame_len);
+    return take_posted(&lent, &records, halted, req_prod, window, frame, frame_len);
+}
+
+/* Replies to the finished packets from the oldest on and frees their records; their slots. */
+static uint32_t release(const struct lent *lent, const struct records *records)
+{
+    uint32_t first = *lent->replied;
+    uint32_t slots = 0;
+
+    while (slots < records->held_slots) {
+        struct tollmeander_held *held = &records->list[records->place_at[slots]];
+        uint32_t count = held->slots;
+
+        if (held->finished == 0)
+            break;
+        reply_packet(lent->ring, first + slots, count, held->extras, held->status);
+        *held = (struct tollmeander_held){ 0 };
+        slots += count;
+    }
+    return slots;
+}
+
+uint32_t plain_transmit_finish(uint32_t consumed, uint32_t *replied,
+                               uint8_t *ring, size_t ring_len,
+                               struct tollmeander_held *held, size_t held_len,
+                               uint32_t ticket, int32_t status,
+                               struct tollmeander_report *report)
+{
+    const struct lent lent = { .replied = replied, .ring = ring, .report = report };
+    struct records records;
+    struct tollmeander_held *record;
+    uint32_t slots;
+    bool notify;
+
+    if (ring_len != TOLLMEANDER_PAGE_SIZE)
+        return tell(report, TOLLMEANDER_BAD_PAGE);
+    if (!read_records(&records, held, held_len, consumed, *replied))
+        return tell(report, TOLLMEANDER_BAD_RECORDS);
+    record = find_record(&records, ticket - *replied);
+    if (record == NULL || record->finished != 0 || !is_status(status))
+        return tell(report, TOLLMEANDER_BAD_TICKET);
+    record->status = status;
+    record->finished = 1;
+    slots = release(&lent, &records);
+    notify = slots != 0 && publish(&lent, slots);
+    *report = (struct tollmeander_report){ .answer = TOLLMEANDER_DONE, .slots = slots,
+                                           .notify = notify };
+    return TOLLMEANDER_DONE;
 }
 
 /* Whether a request's grant is fit; where its page begins in the window. */
@@ -488,7 +579,7 @@ static uint32_t put_one(const struct lent *lent, uint8_t *window, const uint8_t 
 
     if (!find_request(lent, n, &page)) {
         reply_receive(lent->ring, n, 0, TOLLMEANDER_REPLY_ERROR);
-        return spoil(lent, (struct verdict){ TOLLMEANDER_CAUSE_GRANT, 0 }, 1);
+        return spoil(lent, (struct verdict){ TOLLMEANDER_CAUSE_GRANT, 0 }, 1, publish(lent, 1));
     }
     memcpy(window + page, frame, frame_len);
     reply_receive(lent->ring, n, 0, (int16_t)frame_len);
@@ -506,7 +597,7 @@ static uint32_t put_all(const struct lent *lent, uint32_t count, uint8_t *window
     if (verdict.cause != 0) {
         for (uint32_t i = 0; i < count; i++)
             reply_receive(lent->ring, first + i, 0, TOLLMEANDER_REPLY_ERROR);
-        return spoil(lent, verdict, count);
+        return spoil(lent, verdict, count, publish(lent, count));
     }
     for (uint32_t i = 0; i < count; i++) {
         memcpy(pieces[i].to, frame, pieces[i].length);
@@ -530,7 +621,8 @@ uint32_t plain_receive_put(uint32_t *consumed, uint32_t *halted,
                            const uint8_t *frame, size_t frame_len,
                            struct tollmeander_report *report)
 {
-    const struct lent lent = { consumed, ring, grants, grants_len / TOLLMEANDER_GRANT_WORD_SIZE,
+    const struct lent lent = { consumed, consumed, ring, grants,
+                               grants_len / TOLLMEANDER_GRANT_WORD_SIZE,
                                window_len / TOLLMEANDER_PAGE_SIZE, report };
     uint32_t req_prod, posted, count;
 
@@ -712,7 +804,7 @@ uint32_t plain_transmit_post(uint32_t replies_read,
                              uint32_t gso, uint16_t gso_size, uint8_t gso_type,
                              struct tollmeander_report *report)
 {
-    const struct lent lent = { NULL, ring, grants, grants_len / TOLLMEANDER_GRANT_WORD_SIZE,
+    const struct lent lent = { NULL, NULL, ring, grants, grants_len / TOLLMEANDER_GRANT_WORD_SIZE,
                                window_len / TOLLMEANDER_PAGE_SIZE, report };
     const struct posting posting = { references, references_len, frame, frame_len, replies_read,
                                      gso != 0, gso_size, gso_type };

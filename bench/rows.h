@@ -7,7 +7,7 @@
 #include "measure.h"
 
 enum {
-    CASE_ROWS = 22,
+    CASE_ROWS = 32,
     SLOT_ROWS = TOLLMEANDER_PACKET_DATA_MAX,
     BYTE_ROWS = 9
 };

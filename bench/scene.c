@@ -12,6 +12,8 @@ enum {
     FIRST_COUNTER = -128,
     /* Calls on a ring that they take nothing off. */
     FRUITLESS_CALLS = 1024,
+    /* Calls on a ring whose records are lent anew before each. */
+    LEAVE_CALLS = 64,
 
     GRANT_READ_WRITE = TOLLMEANDER_GRANTED | TOLLMEANDER_GRANT_WRITABLE,
     UNGRANTED = SCENE_PAGES,
@@ -91,7 +93,9 @@ static void post_data(struct scene *scene, uint32_t n, uint32_t k, uint32_t plac
     put16(slot + 6, flags);
     put16(slot + 8, n);
     put16(slot + 10, k == 0 ? row->total : part);
-    add_copy(scene, place, page * TOLLMEANDER_PAGE_SIZE + offset, part);
+    /* What is held before the first call is not copied by any. */
+    if (n - scene->counter >= row->held)
+        add_copy(scene, place, page * TOLLMEANDER_PAGE_SIZE + offset, part);
 }
 
 static void post_packet(struct scene *scene, uint32_t n)
@@ -144,25 +148,53 @@ static void refer(struct scene *scene)
         *last = *(last - 1);
 }
 
+/* Posts what a call takes or delivers to, or adds the copies of one that posts. */
+static void post_run(struct scene *scene, uint32_t n)
+{
+    if (scene->row->way == TRANSMIT)
+        post_packet(scene, n);
+    else if (scene->row->way == RECEIVE)
+        post_requests(scene, n);
+    else
+        add_pieces(scene, n);
+}
+
+/* Posts the packets that are held before the first call, and holds them. */
+static void hold_all(struct scene *scene)
+{
+    const struct row *row = scene->row;
+
+    memset(scene->before, 0, sizeof scene->before);
+    for (uint32_t i = 0; i < row->held; i++) {
+        uint32_t n = scene->counter + i;
+
+        post_packet(scene, n);
+        scene->before[i] = (struct tollmeander_held){ n, 1, 0, TOLLMEANDER_REPLY_OKAY,
+                                                      row->way == LEAVE && i > 0 };
+    }
+}
+
+/* The packets or frames that calls on a ring have to do with. */
+static uint32_t runs_of(const struct scene *scene)
+{
+    if (scene->row->way == LEAVE)
+        return 0;
+    return is_fruitful(scene->row) ? scene->calls : 1;
+}
+
 /* Fills a ring page with packets or requests, or leaves it to be posted on. */
 static void post_all(struct scene *scene)
 {
     const struct row *row = scene->row;
-    uint32_t runs = is_fruitful(row) ? scene->calls : 1;
+    uint32_t first = scene->counter + row->held;
+    uint32_t runs = runs_of(scene);
 
     memset(scene->filled, row->way == POST ? OLD_OCTET : 0, sizeof scene->filled);
-    for (uint32_t i = 0; i < runs; i++) {
-        uint32_t n = scene->counter + i * slots_of(row);
-
-        if (row->way == TRANSMIT)
-            post_packet(scene, n);
-        else if (row->way == RECEIVE)
-            post_requests(scene, n);
-        else
-            add_pieces(scene, n);
-    }
+    hold_all(scene);
+    for (uint32_t i = 0; i < runs; i++)
+        post_run(scene, first + i * slots_of(row));
     put32(scene->filled + TOLLMEANDER_RING_REQ_PROD, scene->counter + scene->posted);
-    put32(scene->filled + TOLLMEANDER_RING_REQ_EVENT, scene->counter + runs * slots_of(row));
+    put32(scene->filled + TOLLMEANDER_RING_REQ_EVENT, first + runs * slots_of(row));
     put32(scene->filled + TOLLMEANDER_RING_RSP_PROD, scene->counter);
     put32(scene->filled + TOLLMEANDER_RING_RSP_EVENT, scene->counter + scene->posted);
 }
@@ -171,11 +203,21 @@ static void post_all(struct scene *scene)
 static uint32_t posted_at_first(const struct scene *scene)
 {
     const struct row *row = scene->row;
-    uint32_t slots = is_fruitful(row) ? scene->calls * slots_of(row) : slots_of(row) - 1;
+    uint32_t slots = is_fruitful(row) ? runs_of(scene) * slots_of(row) : slots_of(row) - 1;
 
     if (row->way != POST)
-        return slots;
+        return row->held + slots;
     return row->answer == TOLLMEANDER_NO_SLOTS ? TOLLMEANDER_RING_SLOTS - slots : 0;
+}
+
+/* How many calls are made on a ring. */
+static uint32_t calls_of_row(const struct row *row)
+{
+    if (row->way == LEAVE)
+        return LEAVE_CALLS;
+    if (!is_fruitful(row))
+        return FRUITLESS_CALLS;
+    return (TOLLMEANDER_RING_SLOTS - row->held) / slots_of(row);
 }
 
 /* A grant to each page of the window, then a word that grants nothing. */
@@ -190,7 +232,7 @@ void scene_make(struct scene *scene, const struct row *row, unsigned place)
 {
     scene->row = row;
     scene->counter = (uint32_t)FIRST_COUNTER;
-    scene->calls = is_fruitful(row) ? TOLLMEANDER_RING_SLOTS / slots_of(row) : FRUITLESS_CALLS;
+    scene->calls = calls_of_row(row);
     scene->posted = posted_at_first(scene);
     scene->frame = scene->frame_room + place * FRAME_STEP % TOLLMEANDER_PAGE_SIZE;
     scene->frame_len = row->way == TRANSMIT ? SCENE_FRAME : row->total;
@@ -203,8 +245,10 @@ void scene_make(struct scene *scene, const struct row *row, unsigned place)
 
 void scene_fill(struct scene *scene)
 {
-    for (int i = 0; i < SCENE_RINGS; i++)
+    for (int i = 0; i < SCENE_RINGS; i++) {
         memcpy(scene->rings[i], scene->filled, sizeof scene->filled);
+        memcpy(scene->held[i], scene->before, sizeof scene->before);
+    }
 }
 
 void scene_copy(struct scene *scene)

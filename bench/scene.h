@@ -20,7 +20,12 @@ enum {
     SCENE_GSO_TYPE = 1
 };
 
-enum way { TRANSMIT, RECEIVE, POST };
+/*
+ * TRANSMIT takes a packet and, where that is DONE, finishes the oldest one held:
+ * its own, if none was held before. LEAVE finishes the oldest of packets that are
+ * finished but for this one: all of them leave.
+ */
+enum way { TRANSMIT, LEAVE, RECEIVE, POST };
 
 /*
  * A kind of call. Where it is answered DONE or SPOILED, a ring holds packets or
@@ -37,6 +42,8 @@ struct row {
     uint32_t data_slots;        /* of a packet; or requests for a frame; or its pages */
     uint32_t extras;            /* of a packet */
     uint32_t offset;            /* least offset of a part */
+    uint32_t records;           /* lent */
+    uint32_t held;              /* packets held before a call; of one slot */
 };
 
 /* One of the copies that the calls on a ring cannot do without. */
@@ -55,9 +62,11 @@ struct scene {
     uint8_t *frame;                             /* somewhere in the room for it */
     uint8_t grants[(SCENE_PAGES + 1) * TOLLMEANDER_GRANT_WORD_SIZE];
     uint32_t references[SCENE_REFERENCES];      /* for posts, from a packet's first slot on */
+    struct tollmeander_held held[SCENE_RINGS][TOLLMEANDER_HELD_MAX];
+    struct tollmeander_held before[TOLLMEANDER_HELD_MAX];       /* records before a call */
     size_t frame_len;
     const struct row *row;
-    uint32_t counter;                           /* before the first call */
+    uint32_t counter;                           /* of replies, before the first call */
     uint32_t posted;                            /* slots on a ring, before the first call */
     uint32_t calls;                             /* on a ring */
     uint32_t copies;
@@ -70,7 +79,7 @@ void scene_make(struct scene *scene, const struct row *row, unsigned place);
 /* Writes random bytes, always the same, to window and frame. */
 void scene_write(struct scene *scene);
 
-/* Fills the rings again. */
+/* Fills the rings and the lists of records again. */
 void scene_fill(struct scene *scene);
 
 /* Makes the copies of the calls on a ring, and nothing else. */

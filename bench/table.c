@@ -67,8 +67,8 @@ void print_growth(const struct results *results)
 {
     const struct result *slots = results->slots;
 
-    printf("\nBest ns by slots, transmit of %u bytes\n slots%s\n", (unsigned)slots[0].row.total,
-           heads);
+    printf("\nBest ns by slots, take and finish of %u bytes\n slots%s\n",
+           (unsigned)slots[0].row.total, heads);
     for (int i = 0; i < SLOT_ROWS; i++) {
         printf("%6d", i + 1);
         print_short(&slots[i]);

@@ -7,10 +7,12 @@ enum {
     MOST_PACKETS = 24       /* of a burst of packets */
 };
 
-void guest_open(struct guest *guest, const struct traffic *traffic, struct events *events,
-                uint32_t counter)
+void guest_open(struct guest *guest, const struct traffic *traffic, const struct lapses *lapses,
+                struct events *events, uint32_t counter)
 {
     memset(guest, 0, sizeof *guest);
+    guest->traffic = traffic;
+    guest->lapses = lapses;
     guest->posts = traffic->plain;
     guest_pages_open(&guest->pages, guest->posts);
     if (guest->posts)
@@ -59,11 +61,43 @@ static void post_packets(struct guest *guest)
             events_notify_host(guest->events);
 }
 
-/* Whether the guest has published what it has written, and waits for a reply or is finished. */
-static bool has_sent(const struct sender *sender)
+/* Holds what the ring tells of a packet against the traffic, and against what its device does. */
+static void check_packet(struct guest *guest, const struct front_packet *told)
 {
+    uint64_t number = guest->poster.replied++;
+    struct packet packet;
+
+    traffic_packet(guest->traffic, number, &packet);
+    if (told->status != lapse_status(lapse_of(guest->lapses, number)) ||
+        told->pages != packet.data_slots || told->slots != packet.data_slots + packet.extras)
+        guest->poster.wrong_replies++;
+}
+
+/* Checks the packets that are replied to, which come in the order of posting; their slots. */
+static uint32_t collect_packets(struct guest *guest)
+{
+    enum front_collected collected;
+    struct front_packet told;
+    uint32_t slots = 0;
+
+    while ((collected = front_ring_collect(&guest->poster.ring, &told)) == FRONT_PACKET) {
+        check_packet(guest, &told);
+        slots += told.slots;
+    }
+    if (collected == FRONT_BROKEN)
+        guest->poster.unexpected++;
+    return slots;
+}
+
+/* Whether the guest has published what it has written, and waits for a reply or is finished. */
+static bool has_sent(const struct guest *guest)
+{
+    const struct sender *sender = &guest->sender;
+    bool waits = guest->fills_ring ? slot_ring_free(&sender->ring) == 0
+                                   : sender->complete != sender->ring.replied;
+
     return sender->ring.published == sender->ring.written &&
-           (sender->complete != sender->ring.replied || sender_is_finished(sender));
+           (waits || sender_is_finished(sender));
 }
 
 /* The same, of a guest that posts whole packets. */
@@ -80,7 +114,7 @@ static bool may_sleep(struct guest *guest)
     bool no_frames = slot_ring_await(&guest->receiver.ring, 1);
 
     return no_replies && no_frames &&
-           (guest->posts ? has_posted(&guest->poster) : has_sent(&guest->sender));
+           (guest->posts ? has_posted(&guest->poster) : has_sent(guest));
 }
 
 /* Whether the guest does nothing more: it crashed, or got an answer that must not come. */
@@ -95,10 +129,7 @@ bool guest_turn(struct guest *guest)
         return false;
     guest->asleep = false;
     guest->events->guest_pending = false;
-    if (guest->posts)
-        poster_collect(&guest->poster);
-    else
-        sender_collect(&guest->sender);
+    guest->replies += guest->posts ? collect_packets(guest) : sender_collect(&guest->sender);
     receiver_collect(&guest->receiver);
     post_buffers(guest);
     if (guest->posts)
@@ -112,6 +143,11 @@ bool guest_turn(struct guest *guest)
 bool guest_is_finished(const struct guest *guest)
 {
     return guest->posts ? poster_is_finished(&guest->poster) : sender_is_finished(&guest->sender);
+}
+
+uint32_t guest_posted(const struct guest *guest)
+{
+    return guest->posts ? guest->poster.ring.posted : guest->sender.ring.published;
 }
 
 uint32_t guest_in_flight(const struct guest *guest)

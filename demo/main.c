@@ -3,8 +3,12 @@
  * ring pages with the host. They take turns; a side that sleeps runs again only when the other
  * has notified it, so a missing notification shows as packets that never arrive.
  *
- * The five sound guests post whole frames by host/front_ring. The three others, whose packets have
- * faults that tollmeander_transmit_post does not make, write slots of every good shape by hand.
+ * Four guests post whole frames by host/front_ring. The others write slots of every good shape by
+ * hand: three whose packets have faults that tollmeander_transmit_post does not make, and one that
+ * fills its ring to the last slot.
+ *
+ * The devices confirm packets later and in any order. One fails some packets, one drops some, and
+ * one forgets one: its guest stops, as replies leave in the order of taking, and the others go on.
  */
 #include <inttypes.h>
 #include <stdbool.h>
@@ -13,6 +17,7 @@
 
 #include "events.h"
 #include "guest.h"
+#include "lapse.h"
 #include "options.h"
 #include "outcome.h"
 #include "progress.h"
@@ -21,16 +26,20 @@
 
 enum {
     GUESTS = 8,
-    CRASHING = 2,           /* guest 3, counted from 1 as the table does */
+    FAILING = 1,            /* the device of guest 2, counted from 1 as the table does */
+    CRASHING = 2,           /* guest 3 */
+    DROPPING = 3,           /* the device of guest 4 */
     MISSHAPING = 4,         /* guest 5 */
     CARELESS = 6,           /* guest 7 */
-    CARELESS_STEP = 100,    /* which spoils one packet in so many */
+    FORGETTING = 7,         /* the device of guest 8 */
+    STEP = 100,             /* one packet in so many is spoiled, failed or dropped */
     ROUNDS_BEFORE_PROGRESS = 64,
     LATEST_WRAP = 1000
 };
 
 static struct frame_pool pool;
 static struct traffic traffics[GUESTS];
+static struct lapses lapses[GUESTS];
 static struct events events[GUESTS];
 static struct guest guests[GUESTS];
 static struct vif vifs[GUESTS];
@@ -51,11 +60,25 @@ static struct traffic plan_traffic(unsigned i, const struct options *options)
         traffic.fault = FAULT_MISSHAPEN;
     if (i == CARELESS) {
         traffic.fault = FAULT_UNGRANTED;
-        traffic.fault_first %= CARELESS_STEP;
-        traffic.fault_step = CARELESS_STEP;
+        traffic.fault_first %= STEP;
+        traffic.fault_step = STEP;
     }
-    traffic.plain = traffic.fault == FAULT_NONE;
+    traffic.plain = traffic.fault == FAULT_NONE && i != FORGETTING;
     return traffic;
+}
+
+/* What the guest's device does with some packets. */
+static struct lapses plan_lapses(unsigned i, const struct options *options)
+{
+    struct lapses some = { LAPSE_NONE, options->packets / 2 % STEP, STEP };
+
+    if (i == FAILING)
+        some.lapse = LAPSE_FAIL;
+    if (i == DROPPING)
+        some.lapse = LAPSE_DROP;
+    if (i == FORGETTING)
+        some = (struct lapses){ LAPSE_FORGET, options->packets / 2, 0 };
+    return some;
 }
 
 /* A first counter from which the run goes through the wrap. */
@@ -73,9 +96,11 @@ static void open_all(const struct options *options)
     frame_pool_fill(&pool, options->seed);
     for (unsigned i = 0; i < GUESTS; i++) {
         traffics[i] = plan_traffic(i, options);
-        guest_open(&guests[i], &traffics[i], &events[i], counter);
-        vif_open(&vifs[i], &guests[i], &traffics[i], &events[i], counter);
+        lapses[i] = plan_lapses(i, options);
+        guest_open(&guests[i], &traffics[i], &lapses[i], &events[i], counter);
+        vif_open(&vifs[i], &guests[i], &events[i], counter);
     }
+    guests[FORGETTING].fills_ring = true;
 }
 
 /* A turn for every guest and for the host on every guest's rings; whether anyone was awake. */
@@ -91,13 +116,13 @@ static bool run_round(void)
 }
 
 /* Frames for which no buffers come are given up in the end, as a host does after a time. */
-static bool drop_held_frames(void)
+static bool give_up_frames(void)
 {
-    bool dropped = false;
+    bool given_up = false;
 
     for (unsigned i = 0; i < GUESTS; i++)
-        dropped |= vif_drop_held(&vifs[i]);
-    return dropped;
+        given_up |= vif_give_up_frame(&vifs[i]);
+    return given_up;
 }
 
 static double run_all(const struct options *options)
@@ -105,7 +130,7 @@ static double run_all(const struct options *options)
     struct progress progress;
 
     progress_start(&progress);
-    for (uint64_t round = 1; run_round() || drop_held_frames(); round++) {
+    for (uint64_t round = 1; run_round() || give_up_frames(); round++) {
         uint64_t done = 0;
 
         if (round % ROUNDS_BEFORE_PROGRESS != 0)
@@ -122,7 +147,7 @@ static bool check_all(void)
     bool right = true;
 
     for (unsigned i = 0; i < GUESTS; i++)
-        right &= outcome_check(i + 1, &traffics[i], &guests[i], &vifs[i]);
+        right &= outcome_check(i + 1, &guests[i], &vifs[i]);
     return right;
 }
 

@@ -50,6 +50,8 @@
  *       refused here; a backend on this library (back_ring.c) replies as said above.
  * NOTE: A backend need not publish the replies of a packet all at once. They are read
  *       when the last of them is there, and free no slot before.
+ * NOTE: A backend may hold a packet until its device has confirmed it. Slots and pages are
+ *       the packet's for so long, and those of the packets behind it too.
  */
 #ifndef TOLLMEANDER_FRONT_RING_H
 #define TOLLMEANDER_FRONT_RING_H

@@ -1,22 +1,26 @@
 /******************************************************************************
  * tollmeander.h
  *
- * The backend side of one Xen network queue, in two calls, and a call for the
+ * The backend side of one Xen network queue, in three calls, and a call for the
  * guest's side:
  *
- *   tollmeander_transmit_take   takes at most one packet off a transmit ring
- *                               (guest to host) and joins it to a frame
- *   tollmeander_receive_put     puts at most one frame onto a receive ring
- *                               (host to guest)
- *   tollmeander_transmit_post   lays one frame into granted pages and posts it
- *                               on a transmit ring as one packet
+ *   tollmeander_transmit_take     takes at most one packet off a transmit ring
+ *                                 (guest to host), joins it to a frame and holds
+ *                                 it in a list of the host's
+ *   tollmeander_transmit_finish   finishes a held packet, and replies to the
+ *                                 finished ones in the order of taking
+ *   tollmeander_receive_put       puts at most one frame onto a receive ring
+ *                                 (host to guest)
+ *   tollmeander_transmit_post     lays one frame into granted pages and posts it
+ *                                 on a transmit ring as one packet
  *
- * Layouts and flags are those of Xen's public netif.h and ring.h. All integers
- * in the memory that the host lends are little-endian.
+ * Layouts and flags are those of Xen's public netif.h and ring.h. Integers in ring
+ * pages and grant tables are little-endian; counters, marks, references, records
+ * and reports have the byte order of the CPU.
  *
  * A call works on what the host lends it and on nothing else. It allocates
  * nothing, keeps no pointer and no state, never blocks, calls nothing but
- * memmove, and ends whatever the guest has written.
+ * memmove and memset, and ends whatever the guest has written.
  *
  * Where a section below says NOTE, hosts have gone wrong there before.
  *
@@ -51,13 +55,14 @@ extern "C" {
  * | not used                                      |  up to 4095
  * +-----+-----+-----+-----+-----+-----+-----+-----+
  *
- * What take and put do with them:
+ * What take, finish and put do with them:
  *
- * req_prod:  slots that the guest has ever posted. Read, never written.
+ * req_prod:  slots that the guest has ever posted. Read by take and put, never
+ *            written.
  * req_event: the guest notifies the host when req_prod passes this. Written by
  *            EMPTY, WAITING and NO_BUFFERS (as req_prod + 1), never read.
- * rsp_prod:  slots that have ever been replied to. Written by DONE and
- *            SPOILED, never read.
+ * rsp_prod:  slots that have ever been replied to. Written where a reply leaves,
+ *            as the counter of replies then is, and nowhere else; never read.
  * rsp_event: the host notifies the guest when rsp_prod passes this. Read,
  *            never written.
  *
@@ -67,11 +72,15 @@ extern "C" {
  * slot n:    at 64 + 12 * (n % 256) on a transmit ring, at
  *            64 + 8 * (n % 256) on a receive ring.
  *
+ * A queue of a transmit ring has two counters, of slots consumed and of slots
+ * replied to; those between the two are the held packets'. A queue of a receive
+ * ring has one: what put consumes it replies to.
+ *
  * NOTE: The counters run on through 2^32. Slots posted and not consumed are
- *       (uint32_t)(req_prod - consumed); a plain less-than between counters
- *       fails at the wrap.
- * NOTE: Which slots are next is decided by the lent counter alone. rsp_prod is
- *       not read, as the guest can write it.
+ *       (uint32_t)(req_prod - consumed), those held (uint32_t)(consumed - replied);
+ *       a plain less-than between counters fails at the wrap.
+ * NOTE: Which slots are next, to be taken or to be replied to, is decided by the
+ *       lent counters alone. rsp_prod is not read, as the guest can write it.
  */
 #define TOLLMEANDER_PAGE_SIZE           4096u
 #define TOLLMEANDER_RING_SLOTS          256u
@@ -102,7 +111,7 @@ extern "C" {
  * +-----+-----+-----+-----+-----+-----+-----+-----+-----+-----+-----+-----+
  * | id        | status    | as the guest left them                        |
  * +-----+-----+-----+-----+-----+-----+-----+-----+-----+-----+-----+-----+
- *   transmit, reply: 4 octets
+ *   transmit, reply: 4 octets; the id is read from the slot when the reply leaves
  *
  * +-----+-----+-----+-----+-----+-----+-----+-----+
  * | id        | not used  | gref                  |
@@ -125,7 +134,8 @@ extern "C" {
  *       feature-multicast-control, feature-ctrl-ring or feature-xdp-headroom,
  *       and the gso features only if the host cuts large packets.
  * NOTE: A reply takes the place of the slot that it answers. What the guest
- *       asked is gone after the call, but for a transmit slot's last 8 octets.
+ *       asked is gone when the reply has left, but for a transmit slot's last 8
+ *       octets. Until then the slots of a held packet stand as they were lent.
  */
 #define TOLLMEANDER_PACKET_DATA_MAX     18u
 #define TOLLMEANDER_PACKET_EXTRAS_MAX   4u
@@ -133,7 +143,10 @@ extern "C" {
 #define TOLLMEANDER_FRAME_MIN           14u
 #define TOLLMEANDER_FRAME_MAX           65535u
 
-/* Statuses of replies. DROPPED is Xen's; no call here writes it. */
+/*
+ * Statuses of replies. To a transmit ring's data slots: OKAY, ERROR or DROPPED, as
+ * the host finishes the packet; ERROR, where it was SPOILED.
+ */
 #define TOLLMEANDER_REPLY_OKAY          0
 #define TOLLMEANDER_REPLY_ERROR         (-1)
 #define TOLLMEANDER_REPLY_DROPPED       (-2)
@@ -185,12 +198,12 @@ extern "C" {
  * NOTE: The table is the host's own, not the guest's. Fill in a word only for a
  *       page that is mapped now, with the access that it was mapped with; clear
  *       it before unmapping, and where mapping failed.
- * NOTE: Keep a page mapped until the call has returned, and unmap it before the
- *       replies that concern it are published. A guest takes its page back when it
- *       reads the reply. Linux then ends the grant; if the host has the page mapped
- *       still, it logs "Grant still in use by backend domain" and switches its
- *       interface off for good, while the host is told nothing. Or move data by
- *       grant copy, and map nothing.
+ * NOTE: Keep a page mapped until take or put has returned, and unmap it before the
+ *       replies that concern it are published; finish needs none, as the frame was
+ *       copied. A guest takes its page back when it reads the reply. Linux then ends
+ *       the grant; if the host has the page mapped still, it logs "Grant still in
+ *       use by backend domain" and switches its interface off for good, while the
+ *       host is told nothing. Or move data by grant copy, and map nothing.
  */
 #define TOLLMEANDER_GRANT_WORD_SIZE     8u
 #define TOLLMEANDER_GRANTED             1u      /* bits of octets 0 to 3 */
@@ -198,6 +211,58 @@ extern "C" {
 #define TOLLMEANDER_GRANT_PAGE_BIT      2       /* the page number's lowest */
 #define TOLLMEANDER_GRANT_START         4u      /* octets of the word */
 #define TOLLMEANDER_GRANT_LENGTH        6u
+
+/*
+ * Held packets
+ * ============
+ *
+ *    0     1     2     3     4     5     6     7  octet
+ * +-----+-----+-----+-----+-----+-----+-----+-----+
+ * | ticket                | slots                 |  0
+ * +-----+-----+-----+-----+-----+-----+-----+-----+
+ * | extras                | status                |  8
+ * +-----+-----+-----+-----+-----+-----+-----+-----+
+ * | finished              |                          16
+ * +-----+-----+-----+-----+
+ *
+ * A record: a packet that was taken and is not replied to yet, in five words of 32
+ * bits. With each transmit ring the host lends a list of records, at most
+ * TOLLMEANDER_HELD_MAX; take and finish write it.
+ *
+ * ticket:   the counter of the packet's first slot, by which finish names it.
+ * slots:    its slots, extras counted. A record is free exactly if this is 0; what
+ *           else stands in a free record does not matter.
+ * extras:   its extras.
+ * status:   of its data slots' replies: REPLY_OKAY until it is finished.
+ * finished: 0: not yet; anything else: finished. The calls store 1.
+ *
+ * take holds a packet in the first free record. finish finishes it, in any order;
+ * replies leave in the order of taking, as far as finished packets reach from the
+ * oldest on. A record whose packet has left is all zeros. A SPOILED packet is held
+ * too, finished at once with REPLY_ERROR: with nothing else held it leaves within
+ * the same call, else behind the packets before it.
+ *
+ * The records in use hold exactly the (uint32_t)(consumed - replied) slots between
+ * the two counters, at most 256, each slot in one record. Their counts are those
+ * of a packet, each status is REPLY_OKAY, REPLY_ERROR or REPLY_DROPPED, and the
+ * oldest is not finished. A list that is otherwise is BAD_RECORDS.
+ *
+ * NOTE: A status has 32 bits: 65535 is not -1. In a record it is BAD_RECORDS, as
+ *       finish's parameter BAD_TICKET. A reply carries its low 16 bits.
+ * NOTE: Each call looks at every record that is lent, free or not. A host with few
+ *       packets in flight lends a short list: as many records as it holds packets.
+ * NOTE: A list of no records is allowed, but takes nothing: every whole packet is
+ *       NO_RECORD, a spoiled one too.
+ */
+struct tollmeander_held {
+    uint32_t ticket;
+    uint32_t slots;
+    uint32_t extras;
+    int32_t  status;
+    uint32_t finished;
+};
+
+#define TOLLMEANDER_HELD_MAX            256u
 
 /*
  * Report
@@ -215,27 +280,35 @@ extern "C" {
  * +-----+-----+-----+-----+-----+-----+-----+-----+
  * | gso_size              | gso_type              |  32
  * +-----+-----+-----+-----+-----+-----+-----+-----+
+ * | ticket                |                          40
+ * +-----+-----+-----+-----+
  *
- * Ten words of 32 bits in the byte order of the CPU. Every call writes all of
- * them; a field that an answer does not speak of is 0.
+ * Eleven words of 32 bits. Every call writes all of them; a field that an answer
+ * does not speak of is 0.
  *
- * answer:         TOLLMEANDER_DONE to TOLLMEANDER_BAD_GSO; what the call also
+ * answer:         TOLLMEANDER_DONE to TOLLMEANDER_BAD_RECORDS; what the call also
  *                 returns.
  * cause:          SPOILED only, TOLLMEANDER_CAUSE_*.
  * place:          SPOILED only, for the causes GRANT, OFFSET and GSO: which slot
  *                 of the packet (extras counted) or of the frame's requests, the
  *                 first being 0.
- * slots:          DONE and SPOILED: slots consumed and replied to. DONE of post:
- *                 slots posted.
- * notify:         DONE and SPOILED: 1 if the guest asked to be notified of these
- *                 replies, by the rsp_event in the lent page. DONE of post: 1 if
- *                 the backend asked to be notified of these slots, by req_event.
+ * slots:          DONE of take, and SPOILED: slots consumed. DONE of put: slots
+ *                 consumed and replied to. DONE of finish: slots replied to, 0
+ *                 while an older packet waits. DONE of post: slots posted.
+ * notify:         DONE of finish and put, and SPOILED: 1 if replies have left and
+ *                 the guest asked to be notified of them, by the rsp_event in the
+ *                 lent page. DONE of post: 1 if the backend asked to be notified
+ *                 of these slots, by req_event.
  * total:          DONE of take and put: octets of the frame.
  * checksum_blank: DONE of take: the guest left the checksum to the host.
  * data_validated: DONE of take: the guest says that the data is sound.
  * gso_size:       DONE of take: the segment size to cut the frame to, or 0.
  * gso_type:       DONE of take: 1 TCP over IPv4, 2 TCP over IPv6, 0 no gso.
+ * ticket:         DONE of take: the counter of the packet's first slot.
  *
+ * NOTE: 0 is a ticket too. The answer says whether there is one.
+ * NOTE: DONE of take replies to nothing. What is replied to is what replied has
+ *       moved by, at take as at finish; slots of SPOILED does not tell it.
  * NOTE: notify is as old as the page that was lent. On a private copy of the
  *       page, ask again as duty 5 below says.
  * NOTE: SPOILED reports no total, and NO_ROOM reports nothing but itself. A
@@ -257,26 +330,30 @@ struct tollmeander_report {
     uint32_t data_validated;
     uint32_t gso_size;
     uint32_t gso_type;
+    uint32_t ticket;
 };
 
-#define TOLLMEANDER_REPORT_WORDS        10u
+#define TOLLMEANDER_REPORT_WORDS        11u
 
 /*
  * Answers
  * =======
  *
  * What an answer does not name as changed is as it was before the call: octets
- * of every buffer, the counter and the mark.
+ * of every buffer, the counters, the mark and the records. 16 is not used.
  */
 
-/* The slots are consumed and replied to, the frame is handed over. Of post: the
- * frame is in its pages and its slots are posted. */
+/* Take: the slots are consumed, the frame is handed over and the packet is held.
+ * Finish: the packet is finished, and the finished ones from the oldest on are
+ * replied to. Put: the slots are consumed and replied to, the frame is in its
+ * pages. Post: the frame is in its pages and its slots are posted. */
 #define TOLLMEANDER_DONE                0u
 /* ring_len is not 4096. Nothing is changed. */
 #define TOLLMEANDER_BAD_PAGE            1u
-/* The ring was halted before the call. Nothing is changed. */
+/* Take and put: the ring was halted before the call. Nothing is changed. */
 #define TOLLMEANDER_HALTED              2u
-/* More than 256 slots are posted. The ring is now halted. */
+/* Take: more than 256 slots are posted and not replied to, or req_prod is behind
+ * consumed. Put: more than 256 are posted and not consumed. The ring is now halted. */
 #define TOLLMEANDER_OVERFLOW            3u
 /* Transmit: nothing is posted. req_event is set. */
 #define TOLLMEANDER_EMPTY               4u
@@ -284,8 +361,10 @@ struct tollmeander_report {
 #define TOLLMEANDER_MISSHAPEN           5u
 /* Transmit: a packet's first slots are posted, not all. req_event is set. */
 #define TOLLMEANDER_WAITING             6u
-/* The slots are consumed and replied to with REPLY_ERROR (extras as ever with
- * REPLY_NULL); no frame is handed over. See cause and place. */
+/* The slots are consumed and get REPLY_ERROR (extras as ever REPLY_NULL); no frame
+ * is handed over. Put: they are replied to. Take: the packet is finished without
+ * the host, and is replied to in its turn: within the call if nothing was held
+ * before it, else when those before it have left. See cause and place. */
 #define TOLLMEANDER_SPOILED             7u
 /* Transmit: a good packet, but frame_len is less than its total. Nothing is
  * changed; call again with a longer buffer. */
@@ -305,6 +384,15 @@ struct tollmeander_report {
 /* Post: gso is asked for with a size of 0, or a type that is neither 1 nor 2.
  * Nothing is changed. */
 #define TOLLMEANDER_BAD_GSO             13u
+/* Take: a whole packet stands ready, spoiled or good with room for its frame, and
+ * no record is free. Nothing is changed; call again when a finish has freed one. */
+#define TOLLMEANDER_NO_RECORD           14u
+/* Finish: no held packet has this ticket, it is finished already (a spoiled one is
+ * from the start), or the status is not one of the three. Nothing is changed. */
+#define TOLLMEANDER_BAD_TICKET          15u
+/* Take and finish: the list has more than 256 records, or is not as "Held packets"
+ * says, for these two counters. Nothing is changed. */
+#define TOLLMEANDER_BAD_RECORDS         17u
 
 /*
  * Causes of SPOILED, in the order in which they are looked for. On receive only
@@ -322,28 +410,34 @@ struct tollmeander_report {
  * What the host owes
  * ==================
  *
- * The promises of this library hold if the host keeps the following. Nothing of
- * it can be tested by the library.
+ * The promises of this library hold if the host keeps the following. The library
+ * can test nothing of it, but that records and counters fit each other.
  *
  * 1. Pointers. Every pointer is valid for its length, for reading and, where it
  *    is not const, for writing, and is never null: also not where the length is
- *    0. consumed, halted, references and report stand at addresses divisible by 4.
- *    The byte buffers may stand at any address.
+ *    0. consumed, replied, halted, held, references and report stand at addresses
+ *    divisible by 4. The byte buffers may stand at any address.
  *
  * 2. No overlap. No two of the things lent in one call share an octet: ring
- *    page, grant table, window, frame buffer, references, counter, mark and report.
- *    In particular the ring page is not a page of the window.
+ *    page, grant table, window, frame buffer, references, records, each counter,
+ *    mark and report. In particular the ring page is not a page of the window.
  *
  * 3. Nobody else writes. While a call runs, no other thread, no device and no
- *    guest writes what is lent, and nobody reads what the call may write. The
+ *    guest writes what is lent, and nobody reads what the call may write. take
+ *    and finish of a ring are lent the same page, counters and records, and the
  *    two rings of a guest have one window, which put writes and take reads: make
  *    one call at a time for a guest. Calls for different guests may run at once.
+ *    Where a device confirms a packet on another thread, hand its ticket over to
+ *    the thread that makes the calls.
  *
  *    A ring page that the guest has mapped cannot be lent: the guest can write
  *    it at any time. Keep a private page. When req_prod first covers a slot,
  *    copy that slot into the private page, once; lend the private page. The
  *    order: read req_prod; an acquire barrier; the slots up to it; then req_prod
- *    into the private page, as it was read.
+ *    into the private page, as it was read. On a transmit ring copy no slot if
+ *    (uint32_t)(req_prod - replied) is above 256, for it would stand in the place
+ *    of a held one: lend that req_prod, and take is OVERFLOW. If req_prod went
+ *    back, there is no slot to copy.
  *
  *    The guest can also write its data pages while they are lent. The proofs do
  *    not speak of that; but a call copies the window's octets and decides nothing
@@ -351,76 +445,134 @@ struct tollmeander_report {
  *    buffer afterwards, never the window.
  *
  * 4. Write back little. After a call on a private page write to the guest's page
- *    only what the call changed: after DONE and SPOILED the replied slots (the
- *    first 4 octets of a transmit slot, all 8 of a receive slot) and rsp_prod;
- *    after EMPTY, WAITING and NO_BUFFERS req_event. The whole page written back
- *    would undo what the guest has written since.
+ *    only what the call changed. Where the counter of replies has moved (replied,
+ *    after take and finish; consumed, after put): the slots that it moved past
+ *    (the first 4 octets of a transmit slot, all 8 of a receive slot) and
+ *    rsp_prod. After EMPTY, WAITING and NO_BUFFERS: req_event. The whole page
+ *    written back would undo what the guest has written since; slots that are
+ *    consumed and not replied to would reach the guest as replies to nothing.
  *
  * 5. Publish, then decide on the notification, in this order: pages unmapped, or
  *    pieces copied out; the replies; a release barrier (the guest sees the replies
  *    first, and gets its pages back only after they were read or written);
  *    rsp_prod; a full barrier; only now read the guest's rsp_event, and notify if
- *    (uint32_t)(rsp_prod - rsp_event) < slots. An rsp_event read earlier may be
- *    old: a guest that is not notified sleeps on. One notification too many does
- *    no harm.
+ *    (uint32_t)(rsp_prod - rsp_event) is less than what the counter of replies has
+ *    moved by. An rsp_event read earlier may be old: a guest that is not notified
+ *    sleeps on. One notification too many does no harm.
  *
  * 6. Look again before sleeping. After EMPTY, WAITING and NO_BUFFERS: write
  *    req_event to the guest's page; a full barrier; read req_prod again; if it
- *    has moved, call again. Else sleep until the guest notifies.
+ *    has moved, call again. Else sleep until the guest notifies. After NO_RECORD
+ *    wait for the device, not for the guest, which has not been asked to notify:
+ *    finish a ticket, and call again.
  *
  * 7. A halt is for ever. After OVERFLOW, MISSHAPEN and HALTED the ring is done
  *    with, and nothing here lifts the mark. Disconnect the guest, both rings
  *    (the other ring's mark is its own and still clear), at a place where
- *    waiting is allowed, and ignore its events until then. A guest that
- *    connects again gets a fresh queue.
+ *    waiting is allowed, and ignore its events until then. What a halted ring
+ *    holds can be finished. A guest that connects again gets a fresh queue.
  *
- * 8. Lend on. The counter, the mark and the (private) ring page go into the next
- *    call as the last one left them. A fresh queue has mark 0, and req_prod and
- *    rsp_prod equal to its counter, commonly 0.
+ * 8. Lend on. The counters, the mark, the list of records and the (private) ring
+ *    page go into the next call as the last one left them. A fresh queue has mark
+ *    0, both counters, req_prod and rsp_prod equal, commonly 0, and a list that is
+ *    all zeros.
+ *
+ * 9. Finish what was taken. Every DONE of take gives a ticket: finish it, once,
+ *    and within a time limit, with REPLY_DROPPED if need be. Replies leave in
+ *    order, so one packet that is never finished stops its guest at 256 slots. A
+ *    ticket belongs to one connection: drop those that are open when the guest
+ *    disconnects, for the next one may give the same numbers.
  *
  * back_ring (host/ in the sources, <tollmeander/back_ring.h> where installed) does
  * 3 to 6 and 8 for a page that the guest has mapped: in one call, or in steps with
- * a place for mapping before the call and for unmapping before publishing.
+ * a place for mapping before the call and for unmapping before publishing. It tells
+ * tickets of different connections apart too (9): a late one finishes nothing.
  */
 
 /*
- * Takes the packet at the counter off a transmit ring.
+ * Takes the packet at the counter off a transmit ring, and holds it until it is
+ * finished.
  *
  * consumed: slots consumed so far, modulo 2^32.
+ * replied:  slots replied to so far, modulo 2^32.
  * halted:   0, or anything else for halted. A call that halts stores 1; a call
  *           that finds the ring halted leaves the value as it is.
  * ring:     the ring page.
  * grants:   the grant table; octets beyond the last whole word are not used.
  * window:   the guest's pages.
+ * held:     the list of records.
+ * held_len: how many records, not octets.
  * frame:    where the frame goes, from octet 0 on.
  * report:   all of it is written.
  *
- * Answers, in the order in which they are looked for: BAD_PAGE, HALTED, OVERFLOW,
- * EMPTY, then MISSHAPEN or WAITING, then SPOILED, NO_ROOM, DONE.
+ * Answers, in the order in which they are looked for: BAD_PAGE, BAD_RECORDS,
+ * HALTED, OVERFLOW, EMPTY, then MISSHAPEN or WAITING; then of a spoiled packet
+ * NO_RECORD, SPOILED, of a good one NO_ROOM, NO_RECORD, DONE.
  *
  * Needs:  what "What the host owes" says.
- * Leaves: after DONE the frame's total octets in frame, a reply in each of its
- *         slots, the counter moved by slots, rsp_prod equal to the counter.
- *         After SPOILED the same, but for frame. After EMPTY and WAITING
+ * Leaves: after DONE the frame's total octets in frame, consumed moved by slots,
+ *         and in the first free record the ticket, slots and extras of the packet,
+ *         status 0 and finished 0; ring page and replied as they were. After
+ *         SPOILED consumed moved by slots. If something was held before, that
+ *         record as above, but with status REPLY_ERROR and finished 1; else that
+ *         record all zeros, a reply in each of the packet's slots, replied moved by
+ *         slots and rsp_prod equal to it. After EMPTY and WAITING
  *         req_event = req_prod + 1. After OVERFLOW and MISSHAPEN the mark 1.
  * Never:  hands over a part of a packet, or an octet that is not granted; replies
- *         to some slots of a packet and not to the others; writes frame beyond
- *         total, or unless DONE; writes grants or window; depends on slots that
- *         are not posted.
+ *         to some slots of a packet and not to the others, or to a packet before
+ *         an older one; writes frame beyond total, or unless DONE; writes grants or
+ *         window; depends on slots that are not posted.
  */
-uint32_t tollmeander_transmit_take(uint32_t *consumed, uint32_t *halted,
+uint32_t tollmeander_transmit_take(uint32_t *consumed, uint32_t *replied, uint32_t *halted,
                                    uint8_t *ring, size_t ring_len,
                                    const uint8_t *grants, size_t grants_len,
                                    const uint8_t *window, size_t window_len,
+                                   struct tollmeander_held *held, size_t held_len,
                                    uint8_t *frame, size_t frame_len,
                                    struct tollmeander_report *report);
+
+/*
+ * The host's word on a ticket: okay, error or dropped. Finishes the held packet,
+ * and replies to the finished packets from the oldest on, until one is not
+ * finished or none is left.
+ *
+ * consumed: slots consumed so far, as take left it; not written.
+ * replied:  slots replied to so far, as the last call left it.
+ * ring:     the ring page of take.
+ * held:     the list of records, as the last call left it.
+ * held_len: how many records, not octets.
+ * ticket:   as the DONE of take reported it.
+ * status:   REPLY_OKAY, REPLY_ERROR or REPLY_DROPPED.
+ * report:   all of it is written.
+ *
+ * Answers, in the order in which they are looked for: BAD_PAGE, BAD_RECORDS,
+ * BAD_TICKET, DONE. Whether the ring is halted does not matter.
+ *
+ * Needs:  what "What the host owes" says.
+ * Leaves: after DONE, where older packets are held, the record with the status and
+ *         finished 1. Where the packet was the oldest, a reply in each slot of it
+ *         and of the finished ones behind it, with the id that stands in the slot
+ *         and the record's status (extras id 0 and REPLY_NULL), their records all
+ *         zeros, replied moved by slots and rsp_prod equal to it. After every
+ *         other answer all that was lent is as it was.
+ * Never:  replies to some slots of a packet and not to the others, or to a packet
+ *         before an older one; writes req_event, a record or a slot of a packet
+ *         that does not leave (but for the one that is finished), or rsp_prod where
+ *         none leaves; looks at req_prod.
+ */
+uint32_t tollmeander_transmit_finish(uint32_t consumed, uint32_t *replied,
+                                     uint8_t *ring, size_t ring_len,
+                                     struct tollmeander_held *held, size_t held_len,
+                                     uint32_t ticket, int32_t status,
+                                     struct tollmeander_report *report);
 
 /*
  * Puts a frame into the pages of the requests at the counter of a receive ring:
  * 4096 octets to a page, from octet 0 of the page on, the last perhaps shorter.
  *
- * Parameters as above, but that window is written and frame is read; frame_len
- * is the frame's length.
+ * Parameters as those of take, but that window is written and frame is read;
+ * frame_len is the frame's length. The receive ring's counter and mark are its own,
+ * and consumed is also its counter of replies.
  *
  * Answers, in the order in which they are looked for: BAD_PAGE, BAD_LENGTH,
  * HALTED, OVERFLOW, NO_BUFFERS, SPOILED, DONE.
@@ -483,8 +635,8 @@ uint32_t tollmeander_receive_put(uint32_t *consumed, uint32_t *halted,
  *
  * As long as the slots, req_prod, the grants and the pages are as post left them,
  * tollmeander_transmit_take at the packet's first slot is DONE and gives the same
- * frame and gso (unhalted, with room for the frame). No packet of that total with
- * fewer data slots is DONE.
+ * frame and gso (unhalted, with room for the frame, a free record and no
+ * BAD_RECORDS). No packet of that total with fewer data slots is DONE.
  *
  * NOTE: gso_size and gso_type are narrower than int: 65537 and 257 arrive as 1.
  *       Test a wider number before it is passed.

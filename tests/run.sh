@@ -36,11 +36,11 @@ divide() {
         program reference -- divide ../crates/compare/data | cmp - ../crates/compare/stdout
 }
 
-check build cargo build -q --release --offline --all-targets
+check build cargo build -q --release --offline --bins --tests
 check reference cargo test -q --release --offline -p reference
 check replay replay
 check divide divide
-check differential program differential -- run --seed 1 --cases 200000
+check differential program differential -- run --seed 1 --cases 280000
 check racing program differential -- racing --seconds 6
 check mutants program mutants
 check_result tests

@@ -2,9 +2,10 @@
  * A very small network: the host 10.0.0.2. Answers ARP and ping, and echoes UDP and TCP on any
  * port; no fragments. It relies on the vif to lose nothing: a TCP segment is never sent again.
  *
- * It stands where a device would. A device finishes the checksum of a frame whose report says
- * checksum_blank or has a gso_type, and cuts it by gso_size; nothing here leaves this host, so
- * checksums of the guest are not looked at, and a large segment is taken as it is.
+ * It stands where a device would, and is done with a frame at once (see device.h). A device
+ * finishes the checksum of a frame whose report says checksum_blank or has a gso_type, and cuts it
+ * by gso_size; nothing here leaves this host, so checksums of the guest are not looked at, and a
+ * large segment is taken as it is.
  */
 #ifndef TOLLMEANDER_ANSWERER_H
 #define TOLLMEANDER_ANSWERER_H

@@ -6,8 +6,18 @@
 
 enum {
     STEPS_A_TURN = 16,              /* no guest may hold the host for longer */
-    SECONDS_TO_WAIT = 10            /* for buffers; then frames are dropped */
+    SECONDS_TO_WAIT = 10,           /* for buffers; then frames are dropped */
+    SECONDS_A_PERIOD = 5            /* for the device; packets are dropped after one or two */
 };
+
+/* Never 0, which stands for no time. */
+static int64_t seconds_now(void)
+{
+    struct timespec now;
+
+    clock_gettime(CLOCK_MONOTONIC, &now);
+    return (int64_t)now.tv_sec + 1;
+}
 
 static void *map_ring(const struct queue *queue, uint32_t reference)
 {
@@ -30,15 +40,16 @@ static const char *try_to_connect(struct queue *queue)
                                              queue->offer.event_channel);
     if (queue->port < 0)
         return "the event channel cannot be bound";
-    if (!back_transmit_open(&queue->transmit, queue->transmit_page, 0) ||
+    if (!back_transmit_open(&queue->transmit, queue->transmit_page, 0, QUEUE_RECORDS) ||
         !back_receive_open(&queue->receive, queue->receive_page, 0))
         return "a ring cannot be opened";
+    queue->period = seconds_now();
     queue->awake = true;
     return NULL;
 }
 
-struct queue *queue_connect(const struct xen *xen, const struct queue_offer *offer,
-                            const char **why)
+struct queue *queue_connect(const struct xen *xen, struct device *device,
+                            const struct queue_offer *offer, const char **why)
 {
     struct queue *queue = calloc(1, sizeof *queue);
 
@@ -46,6 +57,7 @@ struct queue *queue_connect(const struct xen *xen, const struct queue_offer *off
     if (!queue)
         return NULL;
     queue->xen = xen;
+    queue->device = device;
     queue->offer = *offer;
     queue->port = -1;
     *why = try_to_connect(queue);
@@ -83,7 +95,7 @@ void queue_on_event(struct queue *queue)
     queue->event_held = true;
 }
 
-/* Publishes, and does what the answer asks for; false if there is nothing to do until an event. */
+/* Publishes, and does what the answer asks for; false if there is nothing to do for now. */
 static bool go_on(struct queue *queue, struct back_ring *ring, uint32_t answer)
 {
     queue->notify |= back_ring_publish(ring);
@@ -92,6 +104,9 @@ static bool go_on(struct queue *queue, struct back_ring *ring, uint32_t answer)
         return true;
     case BACK_SLEEP:
         return !back_ring_may_sleep(ring);
+    case BACK_WAIT_FOR_DEVICE:
+        queue->waits_for_device = true;
+        return false;
     case BACK_DISCONNECT:
         queue->end = "the guest broke the rules of the ring";
         return false;
@@ -102,7 +117,59 @@ static bool go_on(struct queue *queue, struct back_ring *ring, uint32_t answer)
     return false;
 }
 
-/* Takes a packet; false if there is nothing to do until an event. */
+/* Finishes a packet, and publishes the replies that leave; whether it was open. */
+static bool finish(struct queue *queue, struct back_ticket ticket, int32_t status)
+{
+    struct tollmeander_report report;
+    uint32_t answer = back_transmit_finish_copied(&queue->transmit, ticket, status, &report);
+
+    queue->notify |= back_ring_publish(&queue->transmit.ring);
+    if (report.slots > 0 && queue->waits_for_device) {
+        queue->waits_for_device = false;
+        queue->awake = true;
+    }
+    return answer == TOLLMEANDER_DONE;
+}
+
+bool queue_finish(struct queue *queue, struct back_ticket ticket, int32_t status)
+{
+    bool was_open = finish(queue, ticket, status);
+
+    counters_finish(&queue->count, was_open, status);
+    return was_open;
+}
+
+/*
+ * Once in a period, drops the packets that were open when it began: they had a period at least, and
+ * nothing is open for more than two.
+ */
+static void drop_overdue(struct queue *queue)
+{
+    const int64_t now = seconds_now();
+    struct back_ticket ticket;
+
+    if (now - queue->period < SECONDS_A_PERIOD)
+        return;
+    while (back_transmit_oldest(&queue->transmit, &ticket) &&
+           (int32_t)(ticket.slot - queue->period_first) < 0 &&
+           finish(queue, ticket, TOLLMEANDER_REPLY_DROPPED))
+        queue->count.finish.overdue++;
+    queue->period = now;
+    queue->period_first = queue->transmit.ring.consumed;
+}
+
+/* Hands a packet over. A device that has too many drops it. */
+static void hand_over(struct queue *queue, const struct tollmeander_report *report)
+{
+    struct back_ticket ticket = back_transmit_ticket(&queue->transmit, report);
+
+    if (device_give(queue->device, ticket))
+        answerer_take(&queue->answerer, queue->frame, report->total, &queue->outbox);
+    else
+        queue_finish(queue, ticket, TOLLMEANDER_REPLY_DROPPED);
+}
+
+/* Takes a packet; false if there is nothing to do until an event, or until the device confirms. */
 static bool take(struct queue *queue)
 {
     struct guest_memory memory = pages_transmit_memory(&queue->pages);
@@ -116,17 +183,8 @@ static bool take(struct queue *queue)
     pages_return_transmit(&queue->pages, ring, report.slots);
     counters_take(&queue->count, &report);
     if (report.answer == TOLLMEANDER_DONE)
-        answerer_take(&queue->answerer, queue->frame, report.total, &queue->outbox);
+        hand_over(queue, &report);
     return go_on(queue, ring, report.answer);
-}
-
-/* Never 0, which stands for no time. */
-static int64_t seconds_now(void)
-{
-    struct timespec now;
-
-    clock_gettime(CLOCK_MONOTONIC, &now);
-    return (int64_t)now.tv_sec + 1;
 }
 
 /* After an answer the oldest frame is done with, or it waits; false if it waits. */
@@ -175,7 +233,8 @@ static bool put(struct queue *queue)
 /* The outbox empties before the next take: what waits is bounded, and the guest feels it. */
 bool queue_turn(struct queue *queue)
 {
-    if (queue_waits(queue) && queue->tried != seconds_now())
+    drop_overdue(queue);
+    if (queue->waiting_since != 0 && queue->tried != seconds_now())
         queue->awake = true;
     for (int n = 0; n < STEPS_A_TURN && queue->awake && !queue->end; n++)
         queue->awake = outbox_is_empty(&queue->outbox) ? take(queue) : put(queue);

@@ -18,18 +18,24 @@ void table_add(struct table *table, const char *name, const char *end,
     table->connections++;
 }
 
+/* Prints a count that is not 0; what goes before the next one. */
+static const char *print_count(const char *before, const char *what, uint64_t count)
+{
+    if (count == 0)
+        return before;
+    printf("%s%s %" PRIu64, before, what, count);
+    return ", ";
+}
+
 /* Each answer of a ring by name, a refused packet by its cause as well. */
 static void print_ring(const char *ring, const struct ring_counters *count)
 {
     const char *before = "";
 
     printf("    %s: ", ring);
-    for (uint32_t i = 0; i < COUNTERS_ANSWERS; i++) {
-        if (count->answer[i] == 0 || i == TOLLMEANDER_SPOILED)
-            continue;
-        printf("%s%s %" PRIu64, before, tollmeander_answer_name(i), count->answer[i]);
-        before = ", ";
-    }
+    for (uint32_t i = 0; i < COUNTERS_ANSWERS; i++)
+        if (i != TOLLMEANDER_SPOILED)
+            before = print_count(before, tollmeander_answer_name(i), count->answer[i]);
     for (uint32_t i = 0; i < COUNTERS_CAUSES; i++) {
         if (count->cause[i] == 0)
             continue;
@@ -37,6 +43,20 @@ static void print_ring(const char *ring, const struct ring_counters *count)
                tollmeander_cause_name(i), count->cause[i]);
         before = ", ";
     }
+    puts(*before ? "" : "nothing");
+}
+
+/* What the device said of the packets taken. */
+static void print_finish(const struct finish_counters *count)
+{
+    const char *before = "";
+
+    printf("    finished: ");
+    before = print_count(before, "okay", count->okay);
+    before = print_count(before, "error", count->error);
+    before = print_count(before, "dropped", count->dropped);
+    before = print_count(before, "overdue", count->overdue);
+    before = print_count(before, "late", count->late);
     puts(*before ? "" : "nothing");
 }
 
@@ -48,6 +68,7 @@ static void print_line(const char *name, const char *end, const struct counters 
            count->most_slots, count->gso, count->receive.answer[TOLLMEANDER_DONE],
            count->given_bytes, count->dropped, count->receive.answer[TOLLMEANDER_SPOILED], end);
     print_ring("transmit", &count->transmit);
+    print_finish(&count->finish);
     print_ring("receive", &count->receive);
 }
 

@@ -47,7 +47,8 @@ static bool watch_guest(const struct vif *vif, bool on)
               : xs_unwatch(vif->xen->store, path, vif->folder);
 }
 
-bool vif_open(struct vif *vif, const struct xen *xen, struct table *table, const char *folder)
+bool vif_open(struct vif *vif, const struct xen *xen, struct device *device, struct table *table,
+              const char *folder)
 {
     char *frontend = store_text(xen->store, folder, "frontend");
     uint32_t domid;
@@ -57,6 +58,7 @@ bool vif_open(struct vif *vif, const struct xen *xen, struct table *table, const
     memset(vif, 0, sizeof *vif);
     if (good) {
         vif->xen = xen;
+        vif->device = device;
         vif->table = table;
         vif->domid = (uint16_t)domid;
         strcpy(vif->folder, folder);
@@ -102,7 +104,7 @@ static void connect_guest(struct vif *vif)
     const char *why = read_offer(vif, &offer);
 
     if (!why)
-        vif->queue = queue_connect(vif->xen, &offer, &why);
+        vif->queue = queue_connect(vif->xen, vif->device, &offer, &why);
     say(vif, vif->queue ? "connected" : why);
     set_state(vif, vif->queue ? STATE_CONNECTED : STATE_CLOSING);
 }

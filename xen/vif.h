@@ -27,6 +27,7 @@
 
 struct vif {
     const struct xen *xen;
+    struct device *device;
     struct table *table;
     char folder[STORE_PATH];        /* ours in XenStore: backend/vif/DOMID/DEVICE */
     char frontend[STORE_PATH];      /* the guest's */
@@ -37,7 +38,8 @@ struct vif {
 };
 
 /* Begins to watch the guest's end; false if the folder is not a vif's. The token is the folder. */
-bool vif_open(struct vif *vif, const struct xen *xen, struct table *table, const char *folder);
+bool vif_open(struct vif *vif, const struct xen *xen, struct device *device, struct table *table,
+              const char *folder);
 
 /* Disconnects, and watches no more. Says "closed" in XenStore if the folder is still there. */
 void vif_close(struct vif *vif, const char *why);

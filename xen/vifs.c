@@ -35,7 +35,7 @@ static int add(struct vifs *vifs, const char *folder, struct left_out *left)
         return -1;
     }
     vif = place < 0 ? NULL : malloc(sizeof *vif);
-    if (!vif || !vif_open(vif, vifs->xen, &vifs->table, folder)) {
+    if (!vif || !vif_open(vif, vifs->xen, &vifs->device, &vifs->table, folder)) {
         left->no_vif++;
         free(vif);
         return -1;
@@ -174,6 +174,31 @@ void vifs_on_event(struct vifs *vifs, int port)
             queue_on_event(vifs->vif[i]->queue);
 }
 
+/* The device's word on a packet goes to its connection; if that is over, nowhere. */
+static void finish(struct vifs *vifs, struct back_ticket ticket, int32_t status)
+{
+    for (unsigned i = 0; i < VIFS_MOST; i++) {
+        struct queue *queue = vifs->vif[i] ? vifs->vif[i]->queue : NULL;
+
+        if (queue && queue->transmit.connection == ticket.connection) {
+            queue_finish(queue, ticket, status);
+            return;
+        }
+    }
+}
+
+/* Whether the device had something to say. */
+static bool hear_device(struct vifs *vifs)
+{
+    struct back_ticket ticket;
+    bool heard = false;
+    int32_t status;
+
+    for (; device_confirm(&vifs->device, &ticket, &status); heard = true)
+        finish(vifs, ticket, status);
+    return heard;
+}
+
 bool vifs_turn(struct vifs *vifs)
 {
     bool more = false;
@@ -181,7 +206,7 @@ bool vifs_turn(struct vifs *vifs)
     for (unsigned i = 0; i < VIFS_MOST; i++)
         if (vifs->vif[i])
             more |= vif_turn(vifs->vif[i]);
-    return more;
+    return hear_device(vifs) || more;
 }
 
 bool vifs_wait(const struct vifs *vifs)

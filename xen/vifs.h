@@ -4,6 +4,7 @@
 
 #include <stdbool.h>
 
+#include "device.h"
 #include "table.h"
 #include "vif.h"
 #include "xen.h"
@@ -20,6 +21,7 @@ struct vifs {
     const struct xen *xen;
     struct vif *vif[VIFS_MOST];     /* NULL where there is none */
     struct left_out said;           /* as far as was said */
+    struct device device;
     struct table table;
 };
 
@@ -35,7 +37,7 @@ void vifs_on_watch(struct vifs *vifs);
 /* An event has come on a port. */
 void vifs_on_event(struct vifs *vifs, int port);
 
-/* Gives each vif its turn; whether one has more to do at once. */
+/* Gives each vif its turn and hears the device; whether there is more to do at once. */
 bool vifs_turn(struct vifs *vifs);
 
 /* Whether a turn is due in a second, also if nothing happens. */

@@ -20,28 +20,41 @@ static void guest_posts(void)
     ring[TOLLMEANDER_RING_REQ_PROD] = 1;
 }
 
+static void notify_if_told(const struct tollmeander_report *report)
+{
+    if (report->notify)
+        puts("now notify the guest");
+}
+
 int main(void)
 {
     static uint8_t grants[4 * TOLLMEANDER_GRANT_WORD_SIZE], frame[TOLLMEANDER_FRAME_MAX];
     static struct back_transmit transmit;
     const struct guest_memory memory = { grants, sizeof grants, window, sizeof window };
+    struct tollmeander_report report;
+    struct back_ticket ticket = { 0, 0 };
     enum back_next next;
 
     guest_posts();
     grant_table_set(grants, 3, 3, TOLLMEANDER_GRANTED);     /* reference 3 is page 3, read only */
-    if (!back_transmit_open(&transmit, shared, 0))
+    if (!back_transmit_open(&transmit, shared, 0, 8))       /* up to eight packets are held */
         return 1;
     do {
-        struct tollmeander_report report;
         uint32_t answer = back_transmit_take(&transmit, &memory, frame, sizeof frame, &report);
 
-        if (answer == TOLLMEANDER_DONE)
+        if (answer == TOLLMEANDER_DONE) {
+            ticket = back_transmit_ticket(&transmit, &report);
             printf("%u bytes: %s\n", (unsigned)report.total, (const char *)frame);
-        else
+        } else {
             puts(tollmeander_answer_name(answer));
-        if (report.notify)
-            puts("now notify the guest");
+        }
+        notify_if_told(&report);
         next = back_ring_next(answer);
     } while (next == BACK_GO_ON);
+
+    /* Later, when the device has confirmed the packet. */
+    back_transmit_finish(&transmit, ticket, TOLLMEANDER_REPLY_OKAY, &report);
+    printf("%s, %u replied to\n", tollmeander_answer_name(report.answer), (unsigned)report.slots);
+    notify_if_told(&report);
     return next == BACK_SLEEP ? 0 : 1;
 }

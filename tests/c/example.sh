@@ -19,6 +19,7 @@ gcc -std=c99 ${WARNINGS:?} tests/c/example.c $flags -o "$work/example"
 "$work/example" > "$work/example.out"
 diff -u - "$work/example.out" <<'END'
 60 bytes: hello from the guest
-now notify the guest
 empty
+done, 1 replied to
+now notify the guest
 END

@@ -1,7 +1,7 @@
 /*
- * Header and library agree: the report's size and order, the numbers of answers, causes and
- * statuses, the layout of ring page and grants, the parameters of post. Buffers may have no length,
- * and byte buffers may stand anywhere.
+ * Header and library agree: size and order of report and record, the numbers of answers, causes and
+ * statuses, the layout of ring page and grants, the parameters of take, finish and post. Buffers
+ * may have no length, and byte buffers may stand anywhere.
  */
 #include <stddef.h>
 #include <stdint.h>
@@ -9,23 +9,34 @@
 
 #include "lent.h"
 
-#define AT(field, offset) \
-    _Static_assert(offsetof(struct tollmeander_report, field) == (offset), #field " is misplaced")
+#define IN(type, field, offset) \
+    _Static_assert(offsetof(struct type, field) == (offset), #field " is misplaced")
 #define IS(name, number) _Static_assert((name) == (number), #name " has another number")
 
-_Static_assert(sizeof(struct tollmeander_report) == 40, "a report is ten words");
+_Static_assert(sizeof(struct tollmeander_report) == 44, "a report is eleven words");
 _Static_assert(_Alignof(struct tollmeander_report) == 4, "a report is aligned to 4");
-AT(answer, 0);
-AT(cause, 4);
-AT(place, 8);
-AT(slots, 12);
-AT(notify, 16);
-AT(total, 20);
-AT(checksum_blank, 24);
-AT(data_validated, 28);
-AT(gso_size, 32);
-AT(gso_type, 36);
-IS(TOLLMEANDER_REPORT_WORDS, 10);
+IN(tollmeander_report, answer, 0);
+IN(tollmeander_report, cause, 4);
+IN(tollmeander_report, place, 8);
+IN(tollmeander_report, slots, 12);
+IN(tollmeander_report, notify, 16);
+IN(tollmeander_report, total, 20);
+IN(tollmeander_report, checksum_blank, 24);
+IN(tollmeander_report, data_validated, 28);
+IN(tollmeander_report, gso_size, 32);
+IN(tollmeander_report, gso_type, 36);
+IN(tollmeander_report, ticket, 40);
+IS(TOLLMEANDER_REPORT_WORDS, 11);
+IS(TICKET, offsetof(struct tollmeander_report, ticket) / sizeof(uint32_t));
+
+_Static_assert(sizeof(struct tollmeander_held) == 20, "a record is five words");
+_Static_assert(_Alignof(struct tollmeander_held) == 4, "a record is aligned to 4");
+IN(tollmeander_held, ticket, 0);
+IN(tollmeander_held, slots, 4);
+IN(tollmeander_held, extras, 8);
+IN(tollmeander_held, status, 12);
+IN(tollmeander_held, finished, 16);
+IS(TOLLMEANDER_HELD_MAX, 256);
 
 IS(TOLLMEANDER_DONE, 0);
 IS(TOLLMEANDER_BAD_PAGE, 1);
@@ -41,6 +52,9 @@ IS(TOLLMEANDER_NO_BUFFERS, 10);
 IS(TOLLMEANDER_NO_SLOTS, 11);
 IS(TOLLMEANDER_BAD_PAGES, 12);
 IS(TOLLMEANDER_BAD_GSO, 13);
+IS(TOLLMEANDER_NO_RECORD, 14);
+IS(TOLLMEANDER_BAD_TICKET, 15);
+IS(TOLLMEANDER_BAD_RECORDS, 17);
 
 IS(TOLLMEANDER_CAUSE_SHORT, 1);
 IS(TOLLMEANDER_CAUSE_LONG, 2);
@@ -75,7 +89,14 @@ IS(TOLLMEANDER_GRANT_PAGE_BIT, 2);
 IS(TOLLMEANDER_GRANT_START, 4);
 IS(TOLLMEANDER_GRANT_LENGTH, 6);
 
-/* The parameters of post, as the header declares them. */
+/* Parameters, as the header declares them. */
+static uint32_t (*const declared_take)(uint32_t *, uint32_t *, uint32_t *, uint8_t *, size_t,
+                                       const uint8_t *, size_t, const uint8_t *, size_t,
+                                       struct tollmeander_held *, size_t, uint8_t *, size_t,
+                                       struct tollmeander_report *) = tollmeander_transmit_take;
+static uint32_t (*const declared_finish)(uint32_t, uint32_t *, uint8_t *, size_t,
+                                         struct tollmeander_held *, size_t, uint32_t, int32_t,
+                                         struct tollmeander_report *) = tollmeander_transmit_finish;
 static uint32_t (*const declared_post)(uint32_t, uint8_t *, size_t, const uint8_t *, size_t,
                                        uint8_t *, size_t, const uint32_t *, size_t,
                                        const uint8_t *, size_t, uint32_t, uint16_t, uint8_t,
@@ -94,8 +115,14 @@ static void check_empty_buffers(void)
     open_queue(0);
     post_data(READ_GREF, 0, 0, 1, 60);
     spoil_report();
-    REPORTS(tollmeander_transmit_take(&consumed, &halted, ring, TOLLMEANDER_PAGE_SIZE, grants, 0,
-                                      window, 0, frame, 0, &lent.report),
+    REPORTS(declared_take(&consumed, &replied, &halted, ring, TOLLMEANDER_PAGE_SIZE, grants, 0,
+                          window, 0, held, 0, frame, 0, &lent.report), TOLLMEANDER_NO_RECORD, 0);
+    spoil_report();
+    REPORTS(declared_finish(consumed, &replied, ring, TOLLMEANDER_PAGE_SIZE, held, 0, 0, 0,
+                            &lent.report), TOLLMEANDER_BAD_TICKET, 0);
+    spoil_report();
+    REPORTS(declared_take(&consumed, &replied, &halted, ring, TOLLMEANDER_PAGE_SIZE, grants, 0,
+                          window, 0, held, 1, frame, 0, &lent.report),
             TOLLMEANDER_SPOILED, TOLLMEANDER_CAUSE_GRANT, 0, 1, 1, 0);
 }
 
@@ -111,11 +138,13 @@ static void check_odd_addresses(void)
     memcpy(odd_grants + 1, grants, sizeof grants);
     memcpy(odd_window + 1, window, sizeof window);
     spoil_report();
-    REPORTS(tollmeander_transmit_take(&consumed, &halted, odd_ring + 1, TOLLMEANDER_PAGE_SIZE,
-                                      odd_grants + 1, sizeof grants, odd_window + 1,
-                                      sizeof window, frame + 1, 60, &lent.report),
-            TOLLMEANDER_DONE, 0, 0, 1, 1, 60, 0);
+    REPORTS(declared_take(&consumed, &replied, &halted, odd_ring + 1, TOLLMEANDER_PAGE_SIZE,
+                          odd_grants + 1, sizeof grants, odd_window + 1, sizeof window, held + 1, 1,
+                          frame + 1, 60, &lent.report), TOLLMEANDER_DONE, 0, 0, 1, 0, 60);
     CHECK(memcmp(frame + 1, window + 3 * TOLLMEANDER_PAGE_SIZE + 1, 60) == 0);
+    spoil_report();
+    REPORTS(declared_finish(consumed, &replied, odd_ring + 1, TOLLMEANDER_PAGE_SIZE, held + 1, 1, 0,
+                            TOLLMEANDER_REPLY_OKAY, &lent.report), TOLLMEANDER_DONE, 0, 0, 1, 1);
     references[1] = WRITE_GREF;
     spoil_report();
     REPORTS(declared_post(1, odd_ring + 1, TOLLMEANDER_PAGE_SIZE, odd_grants + 1, sizeof grants,

@@ -4,13 +4,15 @@
 
 enum { UNWRITTEN = 0x5A5A5A5A };
 
-uint32_t consumed, halted, replies_read;
+uint32_t consumed, replied, halted, replies_read;
 uint8_t ring[TOLLMEANDER_PAGE_SIZE + 1];
 uint8_t grants[GRANTS * TOLLMEANDER_GRANT_WORD_SIZE];
 uint8_t window[PAGES * TOLLMEANDER_PAGE_SIZE];
 uint8_t frame[TOLLMEANDER_FRAME_MAX + 1];
 uint32_t references[1 + LONGEST_PAGES];
 struct lent_report lent;
+struct tollmeander_held held[MOST_RECORDS];
+size_t held_len;
 
 void grant_range(uint32_t gref, uint32_t page, uint32_t bits, uint32_t start, uint32_t length)
 {
@@ -29,7 +31,9 @@ void grant(uint32_t gref, uint32_t page, uint32_t bits)
 void open_queue(uint32_t counter)
 {
     consumed = counter;
+    replied = counter;
     halted = 0;
+    lend_records(RECORDS);
     memset(ring, 0, sizeof ring);
     put32(ring + TOLLMEANDER_RING_REQ_PROD, counter);
     put32(ring + TOLLMEANDER_RING_RSP_PROD, counter);
@@ -43,6 +47,13 @@ void open_queue(uint32_t counter)
     for (size_t i = 0; i < sizeof window; i++)
         window[i] = (uint8_t)(i * 7 + i / TOLLMEANDER_PAGE_SIZE);
     memset(frame, UNCOPIED, sizeof frame);
+}
+
+void lend_records(size_t count)
+{
+    held_len = count;
+    memset(held, UNCOPIED, sizeof held);
+    memset(held, 0, count * sizeof held[0]);
 }
 
 void open_post(uint32_t counter)
@@ -119,8 +130,16 @@ void spoil_report(void)
 uint32_t take(size_t ring_len, size_t frame_len)
 {
     spoil_report();
-    return tollmeander_transmit_take(&consumed, &halted, ring, ring_len, grants, sizeof grants,
-                                     window, sizeof window, frame, frame_len, &lent.report);
+    return tollmeander_transmit_take(&consumed, &replied, &halted, ring, ring_len, grants,
+                                     sizeof grants, window, sizeof window, held, held_len, frame,
+                                     frame_len, &lent.report);
+}
+
+uint32_t finish(size_t ring_len, uint32_t ticket, int32_t status)
+{
+    spoil_report();
+    return tollmeander_transmit_finish(consumed, &replied, ring, ring_len, held, held_len, ticket,
+                                       status, &lent.report);
 }
 
 uint32_t put(size_t ring_len, size_t frame_len)
@@ -143,6 +162,54 @@ bool reported(uint32_t returned, const uint32_t *words)
 {
     return lent.before == UNWRITTEN && lent.after == UNWRITTEN && returned == words[0] &&
            memcmp(&lent.report, words, sizeof lent.report) == 0;
+}
+
+void copy_lent(struct lent_copy *copy)
+{
+    memcpy(copy->ring, ring, sizeof ring);
+    memcpy(copy->grants, grants, sizeof grants);
+    memcpy(copy->window, window, sizeof window);
+    memcpy(copy->frame, frame, sizeof frame);
+    memcpy(copy->references, references, sizeof references);
+    memcpy(copy->held, held, sizeof held);
+    copy->consumed = consumed;
+    copy->replied = replied;
+    copy->halted = halted;
+}
+
+bool is_lent(const struct lent_copy *expected)
+{
+    return memcmp(expected->ring, ring, sizeof ring) == 0 &&
+           memcmp(expected->grants, grants, sizeof grants) == 0 &&
+           memcmp(expected->window, window, sizeof window) == 0 &&
+           memcmp(expected->frame, frame, sizeof frame) == 0 &&
+           memcmp(expected->references, references, sizeof references) == 0 &&
+           memcmp(expected->held, held, sizeof held) == 0 && expected->consumed == consumed &&
+           expected->replied == replied && expected->halted == halted;
+}
+
+bool holds(size_t record, uint32_t ticket, uint32_t slots, uint32_t extras, int32_t status,
+           uint32_t finished)
+{
+    const struct tollmeander_held *is = &held[record];
+
+    return is->ticket == ticket && is->slots == slots && is->extras == extras &&
+           is->status == status && is->finished == finished;
+}
+
+bool is_zeroed(size_t record)
+{
+    return holds(record, 0, 0, 0, 0, 0);
+}
+
+bool is_reply(uint32_t n, uint32_t id, int32_t status)
+{
+    return get32(transmit_slot(n)) == (id | (uint32_t)status << 16);
+}
+
+bool is_extra_reply(uint32_t n)
+{
+    return is_reply(n, 0, TOLLMEANDER_REPLY_NULL);
 }
 
 bool copied(const uint8_t *to, const uint8_t *from, uint32_t n)

@@ -1,7 +1,7 @@
 /*
- * What the tests of the three calls lend, and the guest's hand in it: a queue on a ring page,
- * grants of every kind, a window, a frame buffer, and a report between two words that must not be
- * written.
+ * What the tests of the four calls lend, and the guest's hand in it: a queue on a ring page, grants
+ * of every kind, a window, a list of records, a frame buffer, and a report between two words that
+ * must not be written.
  */
 #ifndef LENT_H
 #define LENT_H
@@ -26,7 +26,10 @@ enum {
     RANGE_GREF = 8,         /* a range of a page, set by each check */
     GRANTS = 9,
     ACCESS = TOLLMEANDER_GRANTED | TOLLMEANDER_GRANT_WRITABLE,
-    LONGEST_PAGES = 16      /* of a frame */
+    LONGEST_PAGES = 16,     /* of a frame */
+    RECORDS = 4,            /* lent, where a check does not say otherwise */
+    MOST_RECORDS = TOLLMEANDER_HELD_MAX + 1,
+    TICKET = 10             /* the report's word of that name */
 };
 
 struct lent_report {
@@ -35,22 +38,29 @@ struct lent_report {
     uint32_t after;
 };
 
-extern uint32_t consumed, halted;
+extern uint32_t consumed, replied, halted;
 extern uint8_t ring[TOLLMEANDER_PAGE_SIZE + 1];
 extern uint8_t grants[GRANTS * TOLLMEANDER_GRANT_WORD_SIZE];
 extern uint8_t window[PAGES * TOLLMEANDER_PAGE_SIZE];
 extern uint8_t frame[TOLLMEANDER_FRAME_MAX + 1];
 extern struct lent_report lent;
 
+/* The list of records, and how many of them are lent. */
+extern struct tollmeander_held held[MOST_RECORDS];
+extern size_t held_len;
+
 /* What post is lent besides: the replies read, and references, of which the first is not lent. */
 extern uint32_t replies_read;
 extern uint32_t references[1 + LONGEST_PAGES];
 
-/* A fresh queue at a counter, with all four kinds of grant to whole pages. */
+/* A fresh queue at a counter, with all four kinds of grant to whole pages and RECORDS records. */
 void open_queue(uint32_t counter);
 
 /* The same for post, with all replies read, a frame, and two references fit for it. */
 void open_post(uint32_t counter);
+
+/* Lends so many records, all free; those behind them are not as records must be. */
+void lend_records(size_t count);
 
 /* Grants a page, or length octets of it from octet start on, with these bits. */
 void grant(uint32_t gref, uint32_t page, uint32_t bits);
@@ -67,24 +77,55 @@ void post_request(uint32_t id, uint32_t gref);
 
 /* The calls on what is lent. */
 uint32_t take(size_t ring_len, size_t frame_len);
+uint32_t finish(size_t ring_len, uint32_t ticket, int32_t status);
 uint32_t put(size_t ring_len, size_t frame_len);
 uint32_t post_frame(size_t ring_len, size_t count, size_t frame_len, uint32_t gso,
                     uint16_t gso_size, uint8_t gso_type);
 
 /* The same where the lengths of ring page and frame buffer are the common ones. */
 #define TAKE() take(TOLLMEANDER_PAGE_SIZE, TOLLMEANDER_FRAME_MAX)
+#define FINISH(ticket, status) finish(TOLLMEANDER_PAGE_SIZE, (ticket), (status))
 #define PUT(length) put(TOLLMEANDER_PAGE_SIZE, (length))
 #define POST(count, length, ...) post_frame(TOLLMEANDER_PAGE_SIZE, (count), (length), __VA_ARGS__)
 
 /* Writes over the report and the words beside it. The calls above do so first. */
 void spoil_report(void);
 
-/* Whether the report is exactly these ten words, in this order, and the call returned the first. */
+/* Whether the report is exactly these words, in this order, and the call returned the first. */
 bool reported(uint32_t returned, const uint32_t *words);
 
 /* Checks a call's report: its answer, and other words where they are given. */
 #define REPORTS(call, ...) \
     CHECK(reported((call), (const uint32_t[TOLLMEANDER_REPORT_WORDS]){ __VA_ARGS__ }))
+
+/* All that is lent, but the report, as one copy. */
+struct lent_copy {
+    uint8_t ring[sizeof ring], grants[sizeof grants], window[sizeof window], frame[sizeof frame];
+    uint32_t references[1 + LONGEST_PAGES];
+    struct tollmeander_held held[MOST_RECORDS];
+    uint32_t consumed, replied, halted;
+};
+
+void copy_lent(struct lent_copy *copy);
+bool is_lent(const struct lent_copy *expected);
+
+/* Checks that a refused call reports its answer alone and leaves all that was lent. */
+#define REFUSES(call, answer) \
+    do { \
+        static struct lent_copy before; \
+        copy_lent(&before); \
+        REPORTS(call, answer, 0); \
+        CHECK(is_lent(&before)); \
+    } while (0)
+
+/* Whether a record is exactly these five words. */
+bool holds(size_t record, uint32_t ticket, uint32_t slots, uint32_t extras, int32_t status,
+           uint32_t finished);
+bool is_zeroed(size_t record);
+
+/* Whether the reply to slot n is this: of a data slot, and of an extra. */
+bool is_reply(uint32_t n, uint32_t id, int32_t status);
+bool is_extra_reply(uint32_t n);
 
 /* Whether bytes are copied from a place to another, and the sixteen behind them are not written. */
 bool copied(const uint8_t *to, const uint8_t *from, uint32_t n);

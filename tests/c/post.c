@@ -11,30 +11,6 @@
 
 enum { GSO_SIZE = 1460 };
 
-/* All that post is lent, but the report, as one copy. */
-struct lent_to_post {
-    uint8_t ring[sizeof ring], grants[sizeof grants], window[sizeof window], frame[sizeof frame];
-    uint32_t references[1 + LONGEST_PAGES];
-};
-
-static void copy_lent(struct lent_to_post *copy)
-{
-    memcpy(copy->ring, ring, sizeof ring);
-    memcpy(copy->grants, grants, sizeof grants);
-    memcpy(copy->window, window, sizeof window);
-    memcpy(copy->frame, frame, sizeof frame);
-    memcpy(copy->references, references, sizeof references);
-}
-
-static bool is_lent(const struct lent_to_post *expected)
-{
-    return memcmp(expected->ring, ring, sizeof ring) == 0 &&
-           memcmp(expected->grants, grants, sizeof grants) == 0 &&
-           memcmp(expected->window, window, sizeof window) == 0 &&
-           memcmp(expected->frame, frame, sizeof frame) == 0 &&
-           memcmp(expected->references, references, sizeof references) == 0;
-}
-
 /* A frame of two pages with gso: three slots across the wrap, octet by octet, and nothing else. */
 static void check_done(void)
 {
@@ -43,7 +19,7 @@ static void check_done(void)
         { 1, 0, 0xB4, 0x05, 2, 0, 0, 0, 0, 0, 0, 0 },
         { OTHER_GREF, 0, 0, 0, 0, 0, 0, 0, 1, 0, 1, 0 }
     };
-    static struct lent_to_post expected;
+    static struct lent_copy expected;
     const uint32_t page = TOLLMEANDER_PAGE_SIZE, first = TOLLMEANDER_RING_FIRST_SLOT;
 
     open_post(UINT32_MAX);
@@ -56,7 +32,7 @@ static void check_done(void)
     REPORTS(POST(2, page + 1, 1, GSO_SIZE, 2), TOLLMEANDER_DONE, 0, 0, 3, 1, 0);
     CHECK(is_lent(&expected));
     memset(frame, UNCOPIED, sizeof frame);
-    REPORTS(TAKE(), TOLLMEANDER_DONE, 0, 0, 3, 1, page + 1, 0, 0, GSO_SIZE, 2);
+    REPORTS(TAKE(), TOLLMEANDER_DONE, 0, 0, 3, 0, page + 1, 0, 0, GSO_SIZE, 2, UINT32_MAX);
     CHECK(copied(frame, expected.frame, page + 1));
 }
 
@@ -68,21 +44,12 @@ static void check_gso(void)
     for (size_t i = 0; i < sizeof asks / sizeof asks[0]; i++) {
         open_post(0);
         REPORTS(POST(1, 60, asks[i], 1, 1), TOLLMEANDER_DONE, 0, 0, 2, 1, 0);
-        REPORTS(TAKE(), TOLLMEANDER_DONE, 0, 0, 2, 1, 60, 0, 0, 1, 1);
+        REPORTS(TAKE(), TOLLMEANDER_DONE, 0, 0, 2, 0, 60, 0, 0, 1, 1);
     }
     open_post(0);
     REPORTS(POST(1, 60, 0, 0, 9), TOLLMEANDER_DONE, 0, 0, 1, 1, 0);
-    REPORTS(TAKE(), TOLLMEANDER_DONE, 0, 0, 1, 1, 60, 0);
+    REPORTS(TAKE(), TOLLMEANDER_DONE, 0, 0, 1, 0, 60);
 }
-
-/* Checks that a refused post reports its answer alone and leaves all that was lent. */
-#define REFUSES(call, answer) \
-    do { \
-        static struct lent_to_post before; \
-        copy_lent(&before); \
-        REPORTS(call, answer, 0); \
-        CHECK(is_lent(&before)); \
-    } while (0)
 
 /* Each answer where all that is looked for later is wrong as well. */
 static void check_order(void)
@@ -175,8 +142,9 @@ static void check_frames(void)
         REPORTS(POST(2, n, 0, 0, 0), TOLLMEANDER_DONE, 0, 0, slots, 1, 0);
         CHECK(copied(window + page, posted, n));
         memset(frame, UNCOPIED, n + 16);
-        REPORTS(TAKE(), TOLLMEANDER_DONE, 0, 0, slots, 1, n, 0);
+        REPORTS(TAKE(), TOLLMEANDER_DONE, 0, 0, slots, 0, n, [TICKET] = replied);
         CHECK(copied(frame, posted, n));
+        REPORTS(FINISH(replied, TOLLMEANDER_REPLY_OKAY), TOLLMEANDER_DONE, 0, 0, slots, 1);
     }
 }
 
@@ -201,10 +169,10 @@ static void check_longest(void)
                                       1, &lent.report), TOLLMEANDER_DONE, 0, 0, slots, 1, 0);
     CHECK(memcmp(wide, frame + 15 * TOLLMEANDER_PAGE_SIZE, TOLLMEANDER_PAGE_SIZE - 1) == 0);
     spoil_report();
-    REPORTS(tollmeander_transmit_take(&consumed, &halted, ring, TOLLMEANDER_PAGE_SIZE, table,
-                                      sizeof table, wide, sizeof wide, taken,
-                                      TOLLMEANDER_FRAME_MAX, &lent.report),
-            TOLLMEANDER_DONE, 0, 0, slots, 1, TOLLMEANDER_FRAME_MAX, 0, 0, UINT16_MAX, 1);
+    REPORTS(tollmeander_transmit_take(&consumed, &replied, &halted, ring, TOLLMEANDER_PAGE_SIZE,
+                                      table, sizeof table, wide, sizeof wide, held, held_len,
+                                      taken, TOLLMEANDER_FRAME_MAX, &lent.report),
+            TOLLMEANDER_DONE, 0, 0, slots, 0, TOLLMEANDER_FRAME_MAX, 0, 0, UINT16_MAX, 1);
     CHECK(memcmp(taken, frame, TOLLMEANDER_FRAME_MAX) == 0);
     CHECK(taken[TOLLMEANDER_FRAME_MAX] == UNCOPIED);
 }

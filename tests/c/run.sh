@@ -34,24 +34,26 @@ demo() {
 
 check 'header: numbers and layouts, empty buffers, odd addresses' brief program tests/layout
 check 'calls: take' brief program tests/take
+check 'calls: finish' brief program tests/finish
 check 'calls: put' brief program tests/put
 check 'calls: post' brief program tests/post
-check 'symbols: memmove only, PIE, shared object' brief sh tests/c/symbols.sh "$lib" "$work"
+check 'symbols: memmove and memset only, PIE, shared object' brief sh tests/c/symbols.sh "$lib" "$work"
 check 'install: pkg-config, C99, C++, the library and host/' brief sh tests/c/install.sh "$lib" "$work"
 check 'header: words of four octets do not compile' brief sh tests/c/old_table.sh "$work"
 check 'example: as in the README' brief sh tests/c/example.sh "$lib" "$work"
 check 'host: both ends serve C99 and C++' brief sh tests/host/headers.sh "$lib" "$work"
-check 'host: a call on the other ring does not compile' brief sh tests/host/two_types.sh "$work"
+check 'host: a call on the other ring, or by a bare number, does not compile' brief \
+      sh tests/host/two_types.sh "$work"
 check 'host: edges' brief program tests/edges
 check 'host: steps' brief program tests/steps
 check "host: edges of the driver's end" brief program tests/front_edges
 check 'host: every interleaving of one call' brief program tests/interleave
 check 'host: every interleaving of one call of the driver' brief program tests/front_interleave
-check 'host: edits that must fail' brief timeout 100 sh tests/host/must_fail.sh "$lib" "$work"
-check 'host: transmit, 1,000,000 packets' brief program tests/transmit_run 1000000
+check 'host: edits that must fail' brief timeout 200 sh tests/host/must_fail.sh "$lib" "$work"
+check 'host: transmit, 600,000 packets' brief program tests/transmit_run 600000
 check 'host: receive, 1,000,000 frames' brief program tests/receive_run 1000000
-check 'host: post and take, 500,000 packets' brief program tests/post_run 500000
-check 'host: in steps, transmit, 300,000 packets' brief program tests/transmit_run 300000 2 steps
+check 'host: post and take, 300,000 packets' brief program tests/post_run 300000
+check 'host: in steps, transmit, 200,000 packets' brief program tests/transmit_run 200000 2 steps
 check 'host: in steps, receive, 300,000 frames' brief program tests/receive_run 300000 2 steps
 check 'host: pages back before replies, 200,000 packets' brief program tests/returned 200000
 check 'host: transmit, slots rewritten' brief program tests/hostile_transmit 100000
@@ -72,6 +74,6 @@ check 'host: in steps, receive, requests rewritten, thread sanitizer' brief \
       program tsan/hostile_receive 10000 2 steps
 check 'host: pages back before replies, thread sanitizer' brief program tsan/returned 20000
 check 'live: the judge refuses what it must' brief tests/live/judge_test.sh
-check 'xen: compiled, where libxen-dev is there' brief tests/live/compile.sh "$lib"
+check 'xen: compiled, its queues over a pretended Xen' brief tests/live/compile.sh "$lib"
 check 'demo: table, counts, options' brief demo
 check_result tests

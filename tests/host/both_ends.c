@@ -1,6 +1,7 @@
 /*
  * Both ends of a ring on one page, in what C99 and C++ have in common: the driver posts a frame,
- * the host takes it, the driver is told that its page is free, and an answer has its name.
+ * the host takes it and drops it later, the driver is told that its page is free, and an answer has
+ * its name.
  */
 #include <string.h>
 
@@ -25,20 +26,28 @@ int main(void)
     uint8_t taken[LENGTH];
     struct tollmeander_report posted, took;
     struct front_packet packet;
+    struct back_ticket ticket;
 
     grant_table_set(grants, GREF, 0, TOLLMEANDER_GRANTED | TOLLMEANDER_GRANT_WRITABLE);
     front_ring_open(&front, shared, 0);
-    if (!back_transmit_open(&back, shared, 0))
+    if (!back_transmit_open(&back, shared, 0, 1))
         return 6;
     if (front_ring_post(&front, &memory, references, 1, frame, LENGTH, no_gso, &posted) !=
         TOLLMEANDER_DONE || !posted.notify || !front_ring_await(&front, 1))
         return 1;
     if (back_transmit_take(&back, &memory, taken, LENGTH, &took) != TOLLMEANDER_DONE ||
-        !took.notify || memcmp(taken, frame, LENGTH) != 0)
+        took.notify || memcmp(taken, frame, LENGTH) != 0)
         return 2;
-    if (front_ring_collect(&front, &packet) != FRONT_PACKET || packet.pages != 1)
+    if (front_ring_collect(&front, &packet) != FRONT_NONE)
         return 3;
+    ticket = back_transmit_ticket(&back, &took);
     if (back_ring_next(back_transmit_take(&back, &memory, taken, LENGTH, &took)) != BACK_SLEEP)
         return 4;
+    if (back_transmit_finish(&back, ticket, TOLLMEANDER_REPLY_DROPPED, &posted) !=
+        TOLLMEANDER_DONE || !posted.notify)
+        return 7;
+    if (front_ring_collect(&front, &packet) != FRONT_PACKET || packet.pages != 1 ||
+        packet.status != TOLLMEANDER_REPLY_DROPPED)
+        return 8;
     return strcmp(tollmeander_answer_name(took.answer), "empty") == 0 ? 0 : 5;
 }

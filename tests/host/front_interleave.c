@@ -39,21 +39,26 @@ static uint32_t reached[OUTCOMES];
 
 /* The backend. */
 
-/* Takes what is there, which is nothing or the packet; if nothing, it has asked for an event. */
+/*
+ * Takes what is there, which is nothing or the packet; if nothing, it has asked for an event. The
+ * packet is finished at once.
+ */
 static void take(void)
 {
-    struct tollmeander_report taking;
+    struct tollmeander_report taking, finishing;
     uint32_t answer = back_transmit_take(&back, &granted, taken_frame, sizeof taken_frame,
                                          &taking);
 
     backend_sleeps = answer == TOLLMEANDER_EMPTY;
-    backend_notified = taking.notify;
     if (backend_sleeps)
         return;
     taken++;
     CHECK(answer == TOLLMEANDER_DONE && taking.slots == SLOTS && taking.total == LENGTH);
     CHECK(taking.gso_size == 1460 && taking.gso_type == 1);
     CHECK(memcmp(taken_frame, frame, LENGTH) == 0);
+    CHECK(back_transmit_finish(&back, back_transmit_ticket(&back, &taking),
+                               TOLLMEANDER_REPLY_OKAY, &finishing) == TOLLMEANDER_DONE);
+    backend_notified = finishing.notify;
 }
 
 /* The two halves of going to sleep. */
@@ -127,7 +132,7 @@ static void set_up(void)
     set_word(RING_REQ_EVENT, COUNTER);
     set_word(RING_RSP_EVENT, COUNTER);
     back_ring_close(&back.ring);
-    CHECK(back_transmit_open(&back, &page, COUNTER));
+    CHECK(back_transmit_open(&back, &page, COUNTER, 1));
     open_pages();
     for (uint32_t i = 0; i < LENGTH; i++)
         frame[i] = (uint8_t)(i * 7 + i / 256);

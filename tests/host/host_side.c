@@ -64,6 +64,52 @@ uint32_t host_put(struct host_side *host, const uint8_t *frame, size_t frame_len
         : back_receive_put(&host->receive, &host->memory, frame, frame_len, report);
 }
 
+void host_open_transmit(struct host_side *host, struct ring_page *page, uint32_t counter,
+                        uint64_t seed)
+{
+    if (!back_transmit_open(&host->transmit, page, counter, HOST_RECORDS))
+        host->unexpected++;
+    device_thread_open(&host->device, &host->events, seed);
+}
+
+void host_hand_over(struct host_side *host, const struct tollmeander_report *report,
+                    int32_t status)
+{
+    device_thread_give(&host->device, (struct confirmation){
+        .ticket = back_transmit_ticket(&host->transmit, report), .status = status
+    });
+}
+
+/* Finishes one packet; in steps it is published later. */
+static bool finish(struct host_side *host, const struct confirmation *packet)
+{
+    struct tollmeander_report report;
+    uint32_t answer = (host->in_steps ? back_transmit_finish_copied : back_transmit_finish)(
+        &host->transmit, packet->ticket, packet->status, &report);
+
+    host->unexpected += answer != TOLLMEANDER_DONE;
+    host->behind += report.slots == 0;
+    return report.notify;
+}
+
+bool host_finish_confirmed(struct host_side *host)
+{
+    struct confirmation packets[TOLLMEANDER_HELD_MAX];
+    uint32_t count = device_thread_collect(&host->device, packets);
+    bool notify = false;
+
+    for (uint32_t i = 0; i < count; i++)
+        notify |= finish(host, &packets[i]);
+    if (host->in_steps)
+        notify |= back_ring_publish(&host->transmit.ring);
+    return notify;
+}
+
+bool host_holds(const struct host_side *host)
+{
+    return host->transmit.replied != host->transmit.ring.consumed;
+}
+
 bool host_may_sleep(uint32_t answer)
 {
     return back_ring_next(answer) == BACK_SLEEP;
@@ -71,9 +117,12 @@ bool host_may_sleep(uint32_t answer)
 
 bool host_is_done(struct host_side *host, uint32_t answer, bool may_sleep)
 {
+    bool waits = back_ring_next(answer) == BACK_WAIT_FOR_DEVICE;
+
     if (answer == TOLLMEANDER_DONE)
         return true;
-    if (may_sleep)
+    host->waits += waits;
+    if (may_sleep || waits)
         channel_sleep(&host->events);
     else
         host->unexpected++;

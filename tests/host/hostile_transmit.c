@@ -1,8 +1,9 @@
 /*
- * A guest that keeps rewriting transmit slots which it has published, while the host takes
- * packets. Every frame handed over must be the bytes of one version of each of its slots, with
- * that version's id in the reply and its flags and gso in the report. All versions are good, so
- * every packet must be done.
+ * A guest that keeps rewriting transmit slots which it has published, while the host takes packets
+ * and while it holds them. Every frame handed over must be the bytes of one version of each of its
+ * slots, with that version's flags and gso in the report. The reply has that version's id, and the
+ * packet's status, which the device gives later, in any order. All versions are good, so every
+ * packet must be done.
  *
  * Of some packets the guest publishes the first slots, waits until the host has seen them (it
  * publishes req_event), ruins them and publishes the rest: the host must have its own copy.
@@ -53,7 +54,8 @@ static uint64_t rewrites;
 static bool guest_stalled;
 static struct run_options options;
 static struct host_side host;
-static uint64_t packets, wrong_frames;
+static uint32_t expected[TOLLMEANDER_RING_SLOTS];   /* replies to what is held */
+static uint64_t packets, wrong_frames, wrong_replies;
 
 static struct shape shape_of(uint64_t number)
 {
@@ -246,19 +248,25 @@ static void run_guest(void)
 
 /* The host. */
 
-/* The reply to slot n, in the private page: the guest may have written over the one in its own. */
-static uint32_t reply_to(uint32_t n)
+/* A word of slot n in the private page: the guest may have written over the one in its own. */
+static uint32_t private_slot_word(uint32_t n, uint32_t word)
 {
-    return private_word(host.transmit.ring.page, ring_slot(TRANSMIT_SLOT_WORDS, n));
+    return private_word(host.transmit.ring.page, ring_slot(TRANSMIT_SLOT_WORDS, n) + word);
 }
 
-/* The version of its last word that a slot was taken in, by its reply; VERSIONS if none. */
-static uint32_t replied_version(struct shape shape, uint32_t n)
+/* The id that a held slot was taken with. */
+static uint32_t taken_id(uint32_t n)
+{
+    return private_slot_word(n, 2) & 0xFFFF;
+}
+
+/* The version of its last word that a slot was taken in, by its id; VERSIONS if none. */
+static uint32_t taken_version(struct shape shape, uint32_t n)
 {
     uint32_t count = version_count(shape.rewriting, n, 2, TRANSMIT_SLOT_WORDS);
     uint32_t version = 0;
 
-    while (version < count && reply_to(n) != version_id(n, version))
+    while (version < count && taken_id(n) != version_id(n, version))
         version++;
     return version < count ? version : VERSIONS;
 }
@@ -295,13 +303,13 @@ static bool is_gso(struct shape shape, uint32_t n, const struct tollmeander_repo
         size |= report->gso_size == gso_size_of(version);
     for (uint32_t version = 0; version < types; version++)
         type |= report->gso_type == gso_type_of(version);
-    return size && type && reply_to(n) == (uint32_t)TOLLMEANDER_REPLY_NULL << 16;
+    return size && type;
 }
 
-/* The part of each data slot by the version replied to; false if a reply is of no version. */
+/* The part of each data slot by the version taken; false if an id is of no version. */
 static bool find_parts(struct shape shape, uint32_t first, uint32_t *part)
 {
-    uint32_t version = replied_version(shape, first);
+    uint32_t version = taken_version(shape, first);
     uint32_t later = 0;
 
     if (version == VERSIONS)
@@ -310,7 +318,7 @@ static bool find_parts(struct shape shape, uint32_t first, uint32_t *part)
     for (uint32_t i = 1; i < shape.data_slots; i++) {
         uint32_t n = first + shape.extras + i;
 
-        version = replied_version(shape, n);
+        version = taken_version(shape, n);
         if (version == VERSIONS)
             return false;
         part[i] = part_of(n, version);
@@ -339,6 +347,37 @@ static bool is_right(uint32_t first, const uint8_t *frame, const struct tollmean
     return at == report->total && is_gso(shape, first + 1, report);
 }
 
+static int32_t status_of(uint64_t number)
+{
+    return number % 5 == 3 ? TOLLMEANDER_REPLY_ERROR :
+           number % 5 == 4 ? TOLLMEANDER_REPLY_DROPPED : TOLLMEANDER_REPLY_OKAY;
+}
+
+/* Notes the replies that the slots of the packet just taken are to get. */
+static void expect_replies(uint32_t first)
+{
+    struct shape shape = shape_of(packets);
+
+    for (uint32_t place = 0; place < slots_of(shape); place++) {
+        uint32_t n = first + place;
+        bool is_extra = shape.extras > 0 && place == 1;
+
+        expected[n % TOLLMEANDER_RING_SLOTS] =
+            is_extra ? (uint32_t)TOLLMEANDER_REPLY_NULL << 16
+                     : taken_id(n) | (uint32_t)status_of(packets) << 16;
+    }
+}
+
+/* Finishes what is confirmed, and checks the replies that leave. */
+static void finish_confirmed(void)
+{
+    uint32_t n = host.transmit.replied;
+
+    host_finish_confirmed(&host);
+    for (; n != host.transmit.replied; n++)
+        wrong_replies += private_slot_word(n, 0) != expected[n % TOLLMEANDER_RING_SLOTS];
+}
+
 /* One turn of the host's loop. */
 static void serve(uint8_t *frame)
 {
@@ -350,6 +389,8 @@ static void serve(uint8_t *frame)
         return;
     if (!is_right(first, frame, &report))
         wrong_frames++;
+    expect_replies(first);
+    host_hand_over(&host, &report, status_of(packets));
     packets++;
 }
 
@@ -357,8 +398,15 @@ static void run_host(void)
 {
     static uint8_t frame[TOLLMEANDER_FRAME_MAX];
 
-    while (packets < options.packets && host_goes_on(&host))
+    while (packets < options.packets && host_goes_on(&host)) {
         serve(frame);
+        finish_confirmed();
+    }
+    while (host_holds(&host) && host_goes_on(&host)) {
+        channel_sleep(&host.events);
+        finish_confirmed();
+    }
+    device_thread_close(&host.device);
 }
 
 int main(int argc, char **argv)
@@ -370,11 +418,12 @@ int main(int argc, char **argv)
     host_open(&host, &memory, (uint32_t)FIRST_COUNTER, options.in_steps);
     guest_rng = rng_of(options.seed, 2);
     slot_ring_open(&front, &page, TRANSMIT_SLOT_WORDS, (uint32_t)FIRST_COUNTER);
-    back_transmit_open(&host.transmit, &page, (uint32_t)FIRST_COUNTER);
+    host_open_transmit(&host, &page, (uint32_t)FIRST_COUNTER, options.seed);
     threads_run(run_guest, run_host);
     printf("hostile transmit: %" PRIu64 " packets, %" PRIu64 " slots rewritten, %" PRIu64
-           " wrong frames, %" PRIu64 " unexpected answers; %s\n", packets, rewrites, wrong_frames,
+           " wrong frames, %" PRIu64 " wrong replies, %" PRIu64 " finished behind others, %" PRIu64
+           " unexpected answers; %s\n", packets, rewrites, wrong_frames, wrong_replies, host.behind,
            host.unexpected, guest_stalled || host.events.stalled ? "a stall" : "no stall");
-    return packets == options.packets && wrong_frames == 0 && host_goes_on(&host) &&
-           !guest_stalled ? 0 : 1;
+    return packets == options.packets && wrong_frames == 0 && wrong_replies == 0 &&
+           host_goes_on(&host) && !guest_stalled ? 0 : 1;
 }

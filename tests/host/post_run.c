@@ -1,8 +1,8 @@
 /*
  * A driver thread posts frames on a transmit ring by front_ring and sleeps until it is notified of
- * replies; the host takes them by back_ring and sleeps until it is notified of slots. Every frame
- * is checked byte for byte, and every packet is told with its slots, pages and status; a side that
- * sleeps too long is a stall.
+ * replies; the host takes them by back_ring and sleeps until it is notified of slots; a device
+ * confirms them in any order. Every frame is checked byte for byte, and every packet is told with
+ * its slots, pages and status; a side that sleeps too long is a stall.
  */
 #include <inttypes.h>
 #include <stdbool.h>
@@ -76,9 +76,16 @@ static bool may_sleep(uint32_t answer)
     return answer == TOLLMEANDER_EMPTY;
 }
 
+/* The only one that the driver here takes for right. */
+static int32_t status_of(uint64_t number)
+{
+    (void)number;
+    return TOLLMEANDER_REPLY_OKAY;
+}
+
 static void run_host(void)
 {
-    run_take(&run, &device, may_sleep);
+    run_take(&run, &device, may_sleep, status_of);
 }
 
 /* Whether all went as it must, and a line about it. */
@@ -98,7 +105,7 @@ int main(int argc, char **argv)
 {
     run_open(&run, argc, argv, true);
     poster_open(&poster, &run.page, &run.pages, &run.traffic, (uint32_t)FIRST_COUNTER);
-    back_transmit_open(&run.host.transmit, &run.page, (uint32_t)FIRST_COUNTER);
+    host_open_transmit(&run.host, &run.page, (uint32_t)FIRST_COUNTER, run.traffic.seed);
     device_open(&device, &run.traffic);
     threads_run(run_driver, run_host);
     return report_run() ? 0 : 1;

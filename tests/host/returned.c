@@ -1,10 +1,11 @@
 /*
  * The steps of back_ring against a guest that does with a reply what Linux does: it takes the page
  * back, and looks whether the host has it mapped still. The guest is honest and sends without a
- * pause; the host maps each page when it has copied the slot that names it, and unmaps it between
- * the call and publishing. No packet may be spoiled, and no page found mapped.
+ * pause; the host maps each page when it has copied the slot that names it, and unmaps it after the
+ * call that takes the packet. It holds some packets, and then finishes them, the last one first. No
+ * packet may be spoiled, and no page found mapped.
  *
- *     returned PACKETS [late]      late: the host unmaps after publishing, and is found out
+ *     returned PACKETS [late]      late: the host unmaps after the replies, and is found out
  */
 #include <inttypes.h>
 #include <sched.h>
@@ -24,7 +25,8 @@ enum {
     SLOTS = TOLLMEANDER_RING_SLOTS,
     PACKET_SLOTS = 2,
     PART = 100,
-    MOST_POSTED = 200       /* slots, so that the host is always behind */
+    MOST_POSTED = 200,      /* slots, so that the host is always behind */
+    MOST_HELD = 3           /* packets */
 };
 
 static struct ring_page page;
@@ -74,7 +76,8 @@ static void run_guest(void)
 
 /* The host. */
 
-static void serve(void)
+/* Takes a packet, if one is there; whether it is held. */
+static bool take(struct back_ticket *ticket)
 {
     static uint8_t frame[PACKET_SLOTS * PART];
     const struct guest_memory mapped = mapping_memory(&mapping);
@@ -86,19 +89,41 @@ static void serve(void)
     if (!is_late)
         mapping_unmap(&mapping, &transmit.ring, report.slots);
     back_ring_publish(&transmit.ring);
-    if (is_late) {
-        sched_yield();
-        mapping_unmap(&mapping, &transmit.ring, report.slots);
-    }
+    *ticket = back_transmit_ticket(&transmit, &report);
     done += report.answer == TOLLMEANDER_DONE;
     other_answers += report.answer != TOLLMEANDER_DONE && report.answer != TOLLMEANDER_EMPTY;
-    if (report.answer == TOLLMEANDER_EMPTY)
+    return report.answer == TOLLMEANDER_DONE;
+}
+
+static void finish(struct back_ticket ticket)
+{
+    struct tollmeander_report report;
+
+    other_answers += back_transmit_finish_copied(&transmit, ticket, TOLLMEANDER_REPLY_OKAY,
+                                                 &report) != TOLLMEANDER_DONE;
+}
+
+/* Takes some packets and finishes them. */
+static void serve(void)
+{
+    struct back_ticket held[MOST_HELD];
+    uint32_t first = transmit.ring.consumed;
+    uint32_t count = 0;
+
+    while (count < MOST_HELD && take(&held[count]))
+        count++;
+    for (uint32_t i = count; i > 0; i--)
+        finish(held[i - 1]);
+    back_ring_publish(&transmit.ring);
+    if (count == 0 || is_late)
         sched_yield();
+    if (is_late)
+        mapping_unmap(&mapping, &transmit.ring, transmit.ring.consumed - first);
 }
 
 static void run_host(void)
 {
-    while (done + other_answers < packets)
+    while (done < packets && other_answers == 0)
         serve();
 }
 
@@ -111,7 +136,7 @@ int main(int argc, char **argv)
     for (uint32_t i = 0; i < SLOTS; i++)
         grant_table_set(grants, i, i, TOLLMEANDER_GRANTED);
     mapping_open(&mapping, &memory, 0);
-    if (!back_transmit_open(&transmit, &page, 0))
+    if (!back_transmit_open(&transmit, &page, 0, MOST_HELD))
         return 2;
     threads_run(run_guest, run_host);
     printf("returned: %" PRIu64 " packets of %" PRIu64 " done, %" PRIu64 " other answers, "

@@ -1,6 +1,7 @@
 /*
- * A run of a guest's traffic over one ring by two threads, the guest's and the host's. Each sleeps
- * until the other notifies it; a side that sleeps too long is a stall.
+ * A run of a guest's traffic over one ring by two threads, the guest's and the host's, and on
+ * transmit a third, the device's. Each sleeps until another notifies it; a side that sleeps too
+ * long is a stall.
  */
 #ifndef RUN_H
 #define RUN_H
@@ -40,8 +41,12 @@ uint32_t run_pick(struct run *run, uint32_t most);
 /* Notifies the guest if the report of the host's call says so; then as host_is_done. */
 bool run_is_done(struct run *run, const struct tollmeander_report *report, bool may_sleep);
 
-/* The host of a transmit ring: takes packets until the device has got all. */
-void run_take(struct run *run, struct device *device, bool (*may_sleep)(uint32_t answer));
+/*
+ * The host of a transmit ring: takes packets until the device has got all, and finishes each with
+ * its status when it is confirmed.
+ */
+void run_take(struct run *run, struct device *device, bool (*may_sleep)(uint32_t answer),
+              int32_t (*status_of)(uint64_t number));
 
 /* Prints the end of a line about the run; whether neither side stalled and all was expected. */
 bool run_ended_well(const struct run *run);

@@ -1,7 +1,8 @@
 /*
  * A guest thread sends packets on a transmit ring and sleeps until it is notified of replies; the
- * host takes them and sleeps until it is notified of slots. Every frame is checked byte for byte,
- * and so is every reply; a side that sleeps too long is a stall.
+ * host takes them and sleeps until it is notified of slots; a device confirms them in any order,
+ * with every status. Every frame is checked byte for byte, and so is every reply; a side that
+ * sleeps too long is a stall.
  */
 #include <inttypes.h>
 #include <stdbool.h>
@@ -23,6 +24,39 @@ static struct device device;
 static uint32_t burst(void)
 {
     return run_pick(&run, rng_below(&run.rng, 8) == 0 ? LONG_BURST : SHORT_BURST);
+}
+
+static int32_t status_of(uint64_t number)
+{
+    return number % 5 == 3 ? TOLLMEANDER_REPLY_ERROR :
+           number % 5 == 4 ? TOLLMEANDER_REPLY_DROPPED : TOLLMEANDER_REPLY_OKAY;
+}
+
+/* Has the data slots of a packet that was written whole expect its status. */
+static void expect_status(uint64_t number, uint32_t first, uint32_t end)
+{
+    for (uint32_t n = first; n != end; n++) {
+        struct expected_reply *reply = &sender.expected[n % TOLLMEANDER_RING_SLOTS];
+
+        if (reply->status != TOLLMEANDER_REPLY_NULL)
+            reply->status = (int16_t)status_of(number);
+    }
+}
+
+/* Writes slots, packet by packet. */
+static void write_slots(uint32_t left)
+{
+    uint32_t written;
+
+    do {
+        uint64_t number = sender.sent;
+        uint32_t first = sender.complete;
+
+        written = sender_write(&sender, 1);
+        if (sender.sent > number)
+            expect_status(number, first, sender.complete);
+        left -= written;
+    } while (written > 0 && left > 0);
 }
 
 /* Publishes what is written in pieces, wherever these end in a packet. */
@@ -54,7 +88,7 @@ static void run_guest(void)
     while (!run.to_guest.stalled) {
         uint32_t due;
 
-        sender_write(&sender, burst());
+        write_slots(burst());
         publish_in_pieces();
         sender_collect(&sender);
         due = sender.complete - sender.ring.replied;
@@ -67,7 +101,7 @@ static void run_guest(void)
 
 static void run_host(void)
 {
-    run_take(&run, &device, host_may_sleep);
+    run_take(&run, &device, host_may_sleep, status_of);
 }
 
 /* Whether all went as it must, and a line about it. */
@@ -84,7 +118,7 @@ int main(int argc, char **argv)
 {
     run_open(&run, argc, argv, false);
     sender_open(&sender, &run.page, &run.pages, &run.traffic, (uint32_t)FIRST_COUNTER);
-    back_transmit_open(&run.host.transmit, &run.page, (uint32_t)FIRST_COUNTER);
+    host_open_transmit(&run.host, &run.page, (uint32_t)FIRST_COUNTER, run.traffic.seed);
     device_open(&device, &run.traffic);
     threads_run(run_guest, run_host);
     return report_run() ? 0 : 1;

@@ -67,6 +67,16 @@ function judge_answers(ring, text,    parts, i, answer, number) {
     }
 }
 
+# judge_finished(TEXT): TEXT is "okay 12, overdue 1, ..", the device's word on packets.
+function judge_finished(text,    parts, part, i) {
+    split(text, parts, ", ")
+    for (i in parts) {
+        split(parts[i], part, " ")
+        if (part[1] == "okay") finished[name] += part[2]
+        else if (part[1] != "nothing") wrong("packets finished: " part[1])
+    }
+}
+
 # judge_number(WHAT): as many as the case has.
 function judge_number(what) {
     if (count[name, what] + 0 != expected[name, what])
@@ -84,6 +94,8 @@ function judge_case() {
     judge_number("connections")
     judge_number("hosts")
     judge_refusals()
+    # A connection that is halted ends with packets held.
+    if (name != "halt" && finished[name] != taken[name]) wrong("packets not finished: " taken[name] - finished[name])
 }
 
 # "=== CASE at 12.34 s" and at the end "dom0: done at 56.78 s".
@@ -106,7 +118,7 @@ name == "refuse" && /rx->offset: 0, size: (-1|4294967295)$/ { next }
     wrong("guest complains: " line)
 }
 
-# The table of a host: a line for each connection, and two of answers.
+# The table of a host: a line for each connection, two of answers, and one of the device's words between them.
 /^\[host\] ([0-9]+\/[0-9]+|earlier) +[0-9]/ {
     count[name, "connections"]++
     taken[name] += $3
@@ -118,6 +130,11 @@ name == "refuse" && /rx->offset: 0, size: (-1|4294967295)$/ { next }
     line = $0
     sub(/^\[host\] +[a-z]+: /, "", line)
     judge_answers(substr($2, 1, length($2) - 1), line)
+}
+/^\[host\]     finished: / {
+    line = $0
+    sub(/^\[host\] +finished: /, "", line)
+    judge_finished(line)
 }
 
 END {

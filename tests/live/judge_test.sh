@@ -36,6 +36,7 @@ dom0: host ended with status 0
 [host] vif        taken       taken    taken in 1  taken    given       given dropped delivered  end
 [host] 1/0          1007     4917836     2434   17     81     1698     4955118       0         0  the guest is gone
 [host]     transmit: done 1007, empty 224, waiting 2
+[host]     finished: okay 1007
 [host]     receive: done 1698, no buffers 1
 [host] 1 connections
 === halt at 50.00 s
@@ -45,6 +46,7 @@ END
         printf '[guest] guest: ping, after: answered\n[guest] talk: tcp 5 x 30000 bytes came back as sent\n'
         printf '[host] 2/0 2 98 2 1 0 2 98 0 0  the guest broke the rules of the ring\n[host]     %s 1\n' "$how"
         printf '[host] 2/0 9 98 2 1 0 9 98 0 0  the guest is gone\n[host]     transmit: done 9\n'
+        printf '[host]     finished: okay 9\n'
     done
     printf 'dom0: host ended with status 0\n'
     cat << 'END'
@@ -56,13 +58,14 @@ END
 dom0: host ended with status 0
 [host] 5/0 90 98000 91 1 0 100 84000 0 2  the guest is gone
 [host]     transmit: done 90, empty 20, spoiled (page not granted) 1
+[host]     finished: okay 90
 [host]     receive: done 100, spoiled (page not granted) 2
 === destroy at 90.00 s
 END
     for how in 1 2 3 4; do
         printf '[guest%s] guest: ping, first: answered\n' "$how"
         printf '[host] %s/0 700 98000 700 1 0 600 84000 0 1  the guest is gone\n' "$how"
-        printf '[host]     transmit: done 700, spoiled (page not granted) 2\n'
+        printf '[host]     transmit: done 700, spoiled (page not granted) 2\n[host]     finished: okay 700\n'
         printf '[host]     receive: done 600, spoiled (page not granted) 1\n'
     done
     printf '[guest] talk: tcp 40 x 150000 bytes came back as sent\n'
@@ -117,6 +120,9 @@ check 'a ring that halted twice' refuses 's/receive: overflow 1/receive: overflo
 check 'a page that was not refused' refuses 's/^.*done 100, .*/[host]     receive: done 102/' refuse 'not refused as'
 check 'another complaint where one is expected' \
     refuses 's/rx->offset: 0, size: -1/Too many slots/' refuse 'guest complains: net eth0: Too many slots'
+check 'a packet that was never finished' refuses 's/okay 1007/okay 1006/' live 'packets not finished: 1;'
+check 'packets of which nothing was said' refuses '/finished: okay 90/d' refuse 'packets not finished: 90;'
+check 'a packet that was dropped' refuses 's/okay 1007/okay 1006, overdue 1/' live 'packets finished: overdue'
 check 'a connection that is missing' refuses '/^.host. 3\/0/d' destroy 'connections: 3 and not 4'
 check 'a host that failed' refuses '/=== live/,/=== halt/s/ended with status 0/ended with status 134/' live 'status 134'
 check 'a host without an end' refuses '/=== live/,/=== halt/{/ended with status/d}' live 'hosts: 0 and not 1'

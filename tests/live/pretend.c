@@ -1,9 +1,11 @@
 #include "pretend.h"
 
+#include <errno.h>
 #include <string.h>
 #include <time.h>
 #include <xenevtchn.h>
 #include <xengnttab.h>
+#include <xenstore.h>
 
 struct pretend pretend;
 
@@ -80,6 +82,7 @@ int xenevtchn_notify(xenevtchn_handle *events, evtchn_port_t port)
 {
     (void)events;
     pretend.wrong += port != PRETEND_PORT;
+    pretend.notified++;
     return 0;
 }
 
@@ -89,4 +92,57 @@ int xenevtchn_unmask(xenevtchn_handle *events, evtchn_port_t port)
     pretend.wrong += port != PRETEND_PORT;
     pretend.unmasked++;
     return 0;
+}
+
+void *xs_read(struct xs_handle *store, xs_transaction_t change, const char *path, unsigned *length)
+{
+    (void)store, (void)change, (void)path, (void)length;
+    errno = ENOENT;
+    return NULL;
+}
+
+char **xs_directory(struct xs_handle *store, xs_transaction_t change, const char *path,
+                    unsigned *count)
+{
+    (void)store, (void)change, (void)path, (void)count;
+    errno = ENOENT;
+    return NULL;
+}
+
+bool xs_write(struct xs_handle *store, xs_transaction_t change, const char *path,
+              const void *text, unsigned length)
+{
+    (void)store, (void)change, (void)path, (void)text, (void)length;
+    return false;
+}
+
+xs_transaction_t xs_transaction_start(struct xs_handle *store)
+{
+    (void)store;
+    return XBT_NULL;
+}
+
+bool xs_transaction_end(struct xs_handle *store, xs_transaction_t change, bool abort)
+{
+    (void)store, (void)change, (void)abort;
+    return false;
+}
+
+bool xs_watch(struct xs_handle *store, const char *path, const char *token)
+{
+    (void)store, (void)path, (void)token;
+    return true;
+}
+
+bool xs_unwatch(struct xs_handle *store, const char *path, const char *token)
+{
+    (void)store, (void)path, (void)token;
+    return true;
+}
+
+char **xs_check_watch(struct xs_handle *store)
+{
+    (void)store;
+    errno = EAGAIN;
+    return NULL;
 }

@@ -1,6 +1,6 @@
 /*
- * A pretended Xen under xen/queue.c and xen/pages.c, for queue_test.c: grants and event channels of
- * one guest, and the clock. The test plays the guest, by writing to the ring pages.
+ * A pretended Xen under xen/, for queue_test.c: grants and event channels of one guest, the clock,
+ * and a XenStore that is empty. The test plays the guest, by writing to the ring pages.
  */
 #ifndef PRETEND_H
 #define PRETEND_H
@@ -24,6 +24,7 @@ struct pretend {
     bool revoked[PRETEND_PAGES];    /* Xen refuses copies */
     int mapped, bound;              /* ring pages and channels now */
     unsigned unmasked;              /* events acknowledged so far */
+    unsigned notified;              /* events sent to the guest so far */
     unsigned wrong;                 /* calls with arguments that were never given out */
     int64_t seconds;                /* the clock */
 };

@@ -2,11 +2,14 @@
 
 #![deny(warnings)]
 
+#[path = "held_table.rs"]
+mod held_table;
 #[path = "post_table.rs"]
 mod post_table;
 #[path = "table.rs"]
 mod table;
 
+use held_table::HELD_MUTANTS;
 use post_table::POST_MUTANTS;
 use std::fmt::Write;
 use std::path::Path;
@@ -16,33 +19,56 @@ use table::{Mutant, MUTANTS};
 const SOURCE: &str = "../reference/src";
 
 /// The modules that the calls are made of, each after those that it uses. The last has the calls.
-const MODULES: [&str; 10] =
-    ["words", "slots", "report", "ring", "grammar", "grants", "receive", "transmit", "post", "calls"];
+const MODULES: [&str; 12] = [
+    "words", "slots", "report", "ring", "grammar", "grants", "receive", "held", "finish", "transmit", "post",
+    "calls",
+];
 
 /// A copy without edits, which must agree with the library.
 const UNCHANGED: Mutant = Mutant { name: "unchanged", edits: &[] };
 
+/// The calls, as the test and as the second program name them.
+const CALLS: [(&str, &str); 4] = [
+    ("take", "transmit_take"),
+    ("finish", "transmit_finish"),
+    ("put", "receive_put"),
+    ("post", "transmit_post"),
+];
+
+/// Each table's name in the code, its mutants, and the calls by which they are told from the library.
+const TABLES: [(&str, &[Mutant], &[&str]); 4] = [
+    ("UNCHANGED", &[UNCHANGED], &["take", "finish", "put", "post"]),
+    ("MUTANTS", MUTANTS, &["take", "put"]),
+    ("HELD_MUTANTS", HELD_MUTANTS, &["take", "finish"]),
+    ("POST_MUTANTS", POST_MUTANTS, &["post"]),
+];
+
 fn main() {
     println!("cargo:rerun-if-changed=table.rs");
+    println!("cargo:rerun-if-changed=held_table.rs");
     println!("cargo:rerun-if-changed=post_table.rs");
     println!("cargo:rerun-if-changed={SOURCE}");
     let out = env::var("OUT_DIR").expect("OUT_DIR");
     let texts = MODULES.map(|module| fs::read_to_string(path(SOURCE, module)).expect("a module's source"));
     let mut code = String::new();
-    for (name, mutants) in
-        [("UNCHANGED", &[UNCHANGED][..]), ("MUTANTS", MUTANTS), ("POST_MUTANTS", POST_MUTANTS)]
-    {
+    for (name, mutants, own_calls) in TABLES {
         let mut list = String::new();
         for mutant in mutants {
             code.push_str(&copy(&out, mutant, &texts));
-            let calls = format!("{}::calls", mutant.name);
-            let [take, put] = ["transmit_take", "receive_put"].map(|call| format!("{calls}::{call}"));
-            let second = format!("Second {{ take: {take}, put: {put}, post: {calls}::transmit_post }}");
-            writeln!(list, "({:?}, {second}),", mutant.name).expect("code");
+            writeln!(list, "({:?}, {}),", mutant.name, second(mutant, own_calls)).expect("code");
         }
         writeln!(code, "const {name}: &[(&str, Second)] = &[{list}];").expect("code");
     }
     fs::write(Path::new(&out).join("copies.rs"), code).expect("copies.rs");
+}
+
+/// The code of a mutant's calls: its own, and those of the copy without edits.
+fn second(mutant: &Mutant, own_calls: &[&str]) -> String {
+    let field = |(name, call): (&str, &str)| {
+        let copy = if own_calls.contains(&name) { mutant.name } else { UNCHANGED.name };
+        format!("{name}: {copy}::calls::{call}")
+    };
+    format!("Second {{ {} }}", CALLS.map(field).join(", "))
 }
 
 /// Writes a mutant's own modules to a folder, and gives the code that makes a module of them and the others.

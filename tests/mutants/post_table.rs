@@ -334,7 +334,7 @@ pub const POST_MUTANTS: &[Mutant] = &[
         &[edit(
             "post.rs",
             "return refused(BAD_LENGTH);",
-            "let passes = order.gso.map_or(true, |gso| super::transmit::gso_passes(gso.size, gso.kind));
+            "let passes = order.gso.map_or(true, |gso| super::slots::gso_passes(gso.size, gso.kind));
             return refused(if passes { BAD_LENGTH } else { BAD_GSO });",
         )],
     ),

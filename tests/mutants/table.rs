@@ -1,4 +1,5 @@
 //! Wrong variants of the second program's take and put: edits of its source, each of which must be found exactly once.
+//! Those of the list of held packets have a table of their own.
 
 pub struct Mutant {
     pub name: &'static str,
@@ -32,14 +33,14 @@ pub const MUTANTS: &[Mutant] = &[
     ),
     mutant(
         "counters_compared_with_plain_less_than",
-        &[edit("ring.rs", "minus(req_prod(page), consumed)", "req_prod(page).saturating_sub(consumed)")],
+        &[edit("ring.rs", "minus(req_prod(page), counter)", "req_prod(page).saturating_sub(counter)")],
     ),
     mutant(
         "slot_0_replied_to_before_grants_are_tested",
         &[edit(
-            "transmit.rs",
-            "transmit_reply(packet.first.id, status)",
-            "transmit_reply(packet.first.id, OKAY)",
+            "finish.rs",
+            "id, record.status as i16",
+            "id, if place == 0 { 0 } else { record.status as i16 }",
         )],
     ),
     mutant(
@@ -139,7 +140,7 @@ pub const MUTANTS: &[Mutant] = &[
             edit("transmit.rs", "let gso = packet.extras.last();", "let gso = packet.extras.first();"),
         ],
     ),
-    mutant("gso_type_3_passes", &[edit("transmit.rs", "(1..=2).contains", "(1..=3).contains")]),
+    mutant("gso_type_3_passes", &[edit("slots.rs", "(1..=2).contains", "(1..=3).contains")]),
     mutant("place_counts_data_slots_only", &[edit("transmit.rs", "1 + packet.extras.len()..;", "1..;")]),
     mutant(
         "reference_wraps_in_32_bits",
@@ -345,32 +346,25 @@ pub const MUTANTS: &[Mutant] = &[
             ),
         ],
     ),
-    mutant(
-        "no_room_before_spoiled",
-        &[edit(
-            "transmit.rs",
-            "causes(&packet, lent).first() {",
-            "causes(&packet, lent).first().filter(|_| lent.frame.len() as u64 >= packet.first.size) {",
-        )],
-    ),
+    mutant("no_room_before_spoiled", &[edit("transmit.rs", "cause.is_none() && (lent.frame", "(lent.frame")]),
     mutant(
         "spoiled_reports_the_total",
         &[edit(
             "transmit.rs",
-            "cause, place: place as u32, ..",
-            "cause, place: place as u32, total: packet.first.size as u32, ..",
+            "cause, place, slots, notify, ..",
+            "cause, place, slots, notify, total: packet.first.size as u32, ..",
         )],
     ),
     mutant(
         "extra_gets_the_status",
-        &[edit("transmit.rs", "transmit_reply(0, NULL)", "transmit_reply(0, status)")],
+        &[edit("finish.rs", "transmit_reply(0, NULL)", "transmit_reply(0, record.status as i16)")],
     ),
     mutant(
         "rest_of_the_frame_buffer_cleared",
         &[edit(
             "transmit.rs",
-            "let bytes = joined(&packet, lent);",
-            "let mut bytes = joined(&packet, lent); bytes.resize(lent.frame.len(), 0);",
+            "let bytes = joined(packet, lent);",
+            "let mut bytes = joined(packet, lent); bytes.resize(lent.frame.len(), 0);",
         )],
     ),
     mutant("event_for_the_last_slot_posted", &[edit("ring.rs", "plus(req_prod(page), 1)", "req_prod(page)")]),
@@ -385,19 +379,23 @@ pub const MUTANTS: &[Mutant] = &[
     ),
     mutant(
         "replies_from_rsp_prod",
-        &[edit("ring.rs", "let old = queue.consumed;", "let old = rsp_prod(page);")],
+        &[edit(
+            "ring.rs",
+            "let new = plus(old, slots);",
+            "let old = rsp_prod(page); let new = plus(old, slots);",
+        )],
     ),
     mutant(
         "full_ring_refused",
-        &[edit("transmit.rs", "posted > ring::RING_SLOTS", "posted >= ring::RING_SLOTS")],
+        &[edit("transmit.rs", "unreplied > ring::RING_SLOTS", "unreplied >= ring::RING_SLOTS")],
     ),
     mutant(
         "mark_set_to_1",
-        &[edit("transmit.rs", "refused(queue, HALTED_ALREADY)", "halting(queue, HALTED_ALREADY)")],
+        &[edit("transmit.rs", "Outcome::refused(queue, HALTED_ALREADY)", "halting(queue, HALTED_ALREADY)")],
     ),
     mutant(
         "overflow_does_not_halt",
-        &[edit("receive.rs", "halting(queue, OVERFLOW)", "refused(queue, OVERFLOW)")],
+        &[edit("receive.rs", "ReceiveQueue { halted: 1, ..queue }, OVERFLOW", "queue, OVERFLOW")],
     ),
     mutant(
         "halted_before_bad_length",

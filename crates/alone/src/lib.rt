@@ -1,7 +1,7 @@
 // A packet of one slot, as most are: settled with no loop and no table.
 ghost use mathlib.Core.Path.{_≡_};
 ghost use mathlib.Core.List.{List};
-ghost use Prim.Native.Nat.{ℕ, _+_, _*_, _≤_, _<_};
+ghost use Prim.Native.Nat.{ℕ, _+_, _*_, _≤_};
 ghost use lib.ListN.{length};
 ghost use Rattle.ring.specs.Ring.{pageSize};
 ghost use Rattle.netif.specs.Decode.{dataOf};
@@ -9,15 +9,14 @@ ghost use Rattle.netif.specs.Slot.{transmitSlot};
 ghost use Rattle.answer.specs.declared.Verdict.the-variants.{Good};
 ghost use Rattle.packet.specs.Stages.{slotPage};
 ghost use Rattle.packet.specs.Judge.{judge};
-ghost use Rattle.answer.specs.Report.{goOn};
-ghost use Rattle.answer.specs.Effect.{Gives};
-ghost use Rattle.transmit.specs.Stages.{takeWhole, packetOne, aloneOutline};
-use answer::Answer;
-use answer::Outcome;
+ghost use Rattle.held.specs.declared.Held.{Held};
+ghost use Rattle.transmit.specs.Take.{goOn};
+ghost use Rattle.transmit.specs.Stages.{Lent, Gives, takeWhole, packetOne, aloneOutline};
 use answer::Verdict;
 use grammar::Outline;
 use netif::DataSlot;
 use packet::Part;
+use transmit::Answer;
 
 // The outline of a packet that is one slot.
 fn outline_of(head: DataSlot) -> Outline
@@ -33,51 +32,49 @@ fn outline_of(head: DataSlot) -> Outline
     }
 }
 
-// A good packet of one slot, whose part lies in this page: copied and accepted if the frame buffer has room.
-fn accept_alone(
-    first: u32,
-    head: DataSlot,
-    page: u32,
-    window: &[u8],
-    ring: &mut [u8],
-    frame: &mut [u8],
-) -> Outcome
-    requires { ⌜
-        (length (now ring) ≡ pageSize)
-        × (head ≡ dataOf (transmitSlot (now ring) first))
-        × (4096 * page + 4096 ≤ length (now window))
-        × (head .offset + head .size ≤ 4096) ⌝ }
+// A good packet of one slot, whose part lies in this page: copied and accepted if the frame buffer has room and a record is free.
+fn accept_alone(full: bool, head: DataSlot, page: u32, window: &[u8], frame: &mut [u8]) -> Answer
+    requires { ⌜ (4096 * page + 4096 ≤ length (now window)) × (head .offset + head .size ≤ 4096) ⌝ }
     ensures { λ r. ⌜
-        ((table : List ℕ) → judge table (now (window .entry)) 0 (packetOne (now (ring .entry)) first) ≡
-        Good → page ≡ slotPage table (transmitSlot (now (ring .entry)) first) → Gives
-        (takeWhole table (now (window .entry)) (goOn first) (now (ring .entry)) (now (frame .entry)) 0 (packetOne (now (ring .entry)) first))
-        r (now (ring .exit)) (now (frame .exit))) ⌝ }
+        ((table ring : List ℕ) (first replied : ℕ) (l : List Held) → Lent first replied full l
+        → head ≡ dataOf (transmitSlot ring first)
+        → judge table (now (window .entry)) 0 (packetOne ring first) ≡ Good
+        → page ≡ slotPage table (transmitSlot ring first)
+        → Gives (takeWhole table (now (window .entry)) (goOn first replied) ring (now (frame .entry)) l 0 (packetOne ring first))
+        (goOn first replied) l r ring (now (frame .exit))) ⌝ }
 {
     if frame.len() < head.size as usize {
-        return answer::stay(Answer::NoRoom, first);
+        return Answer::NoRoom;
+    }
+    if full {
+        return Answer::NoRecord;
     }
     gathering::copy_part(window, page, head.offset, head.size, frame, 0);
-    settling::accept(first, outline_of(head), ring)
+    settling::accept(outline_of(head))
 }
 
 // A packet of one slot, as most are: what settle does of it, with no loop and no table.
 pub fn settle_alone(
     first: u32,
+    replied: u32,
+    full: bool,
     grants: &[u8],
     window: &[u8],
     ring: &mut [u8],
     frame: &mut [u8],
-) -> Outcome
+) -> Answer
     requires { ⌜ length (now ring) ≡ pageSize ⌝ }
     ensures { λ r. ⌜
-        Gives
-        (takeWhole (now (grants .entry)) (now (window .entry)) (goOn first) (now (ring .entry)) (now (frame .entry)) 0 (packetOne (now (ring .entry)) first))
-        r (now (ring .exit)) (now (frame .exit)) ⌝ }
+        ((l : List Held) → Lent first replied full l → Gives
+        (takeWhole (now (grants .entry)) (now (window .entry)) (goOn first replied) (now (ring .entry)) (now (frame .entry)) l 0 (packetOne (now (ring .entry)) first))
+        (goOn first replied) l r (now (ring .exit)) (now (frame .exit))) ⌝ }
 {
     let head = DataSlot::at(ring, first);
     match causes::judge_sizes(head.size, 0) {
         Verdict::Bad { cause, place } => settling::refuse(
             first,
+            replied,
+            full,
             outline_of(head),
             cause,
             place,
@@ -86,12 +83,14 @@ pub fn settle_alone(
         Verdict::Good => match causes::judge_slot(grants, window, head, head.size, 0) {
             Part::Bad { cause, place } => settling::refuse(
                 first,
+                replied,
+                full,
                 outline_of(head),
                 cause,
                 place,
                 ring,
             ),
-            Part::At(page) => accept_alone(first, head, page, window, ring, frame),
+            Part::At(page) => accept_alone(full, head, page, window, frame),
         },
     }
 }

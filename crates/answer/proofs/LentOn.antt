@@ -4,6 +4,7 @@ use mathlib.Core.Path.{_≡_, refl, sym, ap, _∙_}
 use mathlib.Core.Bool.{Bool, true, false, cond, not}
 use Prim.Native.Nat.{ℕ}
 use lib.Dec.{eqb}
+use borrow.Author.Tests.{eqb-true}
 use Rattle.answer.specs.Effect.{Effect}
 use Rattle.answer.specs.Report.{flag}
 use Rattle.answer.specs.Words.{queueOf, markAfter, Left, Leaves}
@@ -24,6 +25,15 @@ mark-left mark halted stays = go (eqb mark 0) refl
     go : (b : Bool) → eqb mark 0 ≡ b → not (eqb (markAfter mark halted) 0) ≡ halted
     go true e = marked mark halted e
     go false e = ap (λ (m : ℕ). not (eqb m 0)) (kept mark halted e) ∙ ap not e ∙ sym (stays (ap not e))
+
+-- and is the mark lent, if the call leaves that as it is
+pub mark-same : (mark : ℕ) → markAfter mark (not (eqb mark 0)) ≡ mark
+unfolding markAfter
+mark-same mark = go (eqb mark 0) refl
+  where
+    go : (b : Bool) → eqb mark 0 ≡ b → cond b (flag (not b)) mark ≡ mark
+    go true e = sym (eqb-true mark 0 e)
+    go false e = refl
 
 pub lent-on : (e : Effect) (consumed mark : ℕ) (l : Left) → (queueOf consumed mark .halted ≡ true → e .queue .halted ≡ true) → Leaves e mark l
     → queueOf (l .consumed) (l .mark) ≡ e .queue

@@ -1,28 +1,27 @@
 -- What a call leaves of what it was lent.
 use mathlib.Core.Path.{_≡_}
 use mathlib.Core.List.{List}
-use mathlib.Core.Bool.{Bool, cond, _||_}
+use mathlib.Core.Bool.{Bool, cond}
 use Prim.Native.Nat.{ℕ}
-use lib.Dec.{eqb}
 use Rattle.ring.specs.Ring.{wadd, asking, notify, withProducer}
 use Rattle.ring.specs.declared.Side.the-variants.{Replies}
 use Rattle.answer.specs.declared.Queue.{Queue}
 use Rattle.answer.specs.declared.Outcome.{Outcome}
-use Rattle.answer.specs.Report.{Report, halt, goOn, plain, reportOf}
+use Rattle.answer.specs.Report.{Report, halt, goOn, halts, asks, plain, reportOf}
 
--- the report, the queue, the ring page, and the buffer that the call may write: a transmit call the frame buffer, a receive call the window
+-- the report, the queue, the ring page, and the buffer that the call may write: of a receive call the window
 pub record Effect : Type 0 where
   pub report : Report
   pub queue : Queue
   pub page : List ℕ
   pub buffer : List ℕ
 
--- an answer that consumes nothing, with what it leaves: 3 and 5 halt the queue; 4, 6 and 10 ask for an event
+-- an answer that consumes nothing, with what it leaves
 abbrev pub refusal : ℕ → Queue → List ℕ → List ℕ → Effect
 refusal n q page buffer = record {
   report = plain n;
-  queue = cond (eqb n 3 || eqb n 5) (halt q) q;
-  page = cond (eqb n 4 || eqb n 6 || eqb n 10) (asking page) page;
+  queue = cond (halts n) (halt q) q;
+  page = cond (asks n) (asking page) page;
   buffer = buffer;
 }
 

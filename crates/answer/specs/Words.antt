@@ -16,10 +16,10 @@ queueOf consumed mark = record { consumed = consumed; halted = not (eqb mark 0) 
 unfoldable pub markAfter : (mark : ℕ) (halted : Bool) → ℕ
 markAfter mark halted = cond (eqb mark 0) (flag halted) mark
 
--- the ten words of a report, in order
+-- the eleven words of a report, in order
 unfoldable pub reportWords : Report → List ℕ
 reportWords r =
-    r .answer ∷ r .cause ∷ r .place ∷ r .slots ∷ r .notifies ∷ r .total ∷ r .blank ∷ r .validated ∷ r .gsoSizeWord ∷ r .gsoTypeWord ∷ []
+    r .answer ∷ r .cause ∷ r .place ∷ r .slots ∷ r .notifies ∷ r .total ∷ r .blank ∷ r .validated ∷ r .gsoSizeWord ∷ r .gsoTypeWord ∷ r .ticketWord ∷ []
 
 -- the number that a call returned, and what it left: the two words of the queue, the ring page, the buffer and the report's words
 pub record Left : Type 0 where

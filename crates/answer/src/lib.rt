@@ -33,16 +33,12 @@ pub enum Answer {
     BadPage,
     HaltedAlready,
     Overflow,
-    Empty,
-    Misshapen,
-    Waiting,
     Spoiled {
         cause: u8,
         place: u32,
         slots: u32,
         notify: bool,
     },
-    NoRoom,
     BadLength,
     NoBuffers,
 }
@@ -64,19 +60,6 @@ pub fn keep(answer: Answer, queue: Queue) -> Outcome
     ensures { λ r. ⌜ r ≡ record { answer = answer; queue = queue } ⌝ }
 {
     Outcome { answer, queue }
-}
-
-// An answer that leaves a queue that is not halted at its counter.
-pub fn stay(answer: Answer, consumed: u32) -> Outcome
-    ensures { λ r. ⌜ r ≡ record { answer = answer; queue = goOn consumed } ⌝ }
-{
-    Outcome {
-        answer,
-        queue: Queue {
-            consumed,
-            halted: false,
-        },
-    }
 }
 
 // An answer that halts the queue at a counter.

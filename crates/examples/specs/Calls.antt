@@ -1,15 +1,19 @@
--- What the rows of the table are made of: slots, ring pages, and calls on them.
+-- What the rows of the table are made of: slots, ring pages, lists of records, and calls on them.
 use mathlib.Core.List.{List, [], _∷_, _++_}
 use Prim.Native.Nat.{ℕ, _-_}
-use lib.ListN.{length, replicate}
+use lib.ListN.{length, take, replicate}
 use Rattle.words.specs.Word.{u32At, u16Bytes, u32Bytes}
-use Rattle.ring.specs.Ring.{pageSize}
+use Rattle.ring.specs.Ring.{pageSize, rspProd}
 use Rattle.netif.specs.Slot.{Slot, transmitSlot, receiveSlot}
-use Rattle.answer.specs.declared.Queue.{Queue}
-use Rattle.answer.specs.Report.{goOn, flag}
+use Rattle.answer.specs.Report.{flag}
 use Rattle.answer.specs.Effect.{Effect}
+use Rattle.answer.specs.Words.{queueOf}
 use Rattle.grammar.specs.Divide.{divide, onCut}
-use Rattle.transmit.specs.Take.{transmitTake}
+use Rattle.held.specs.declared.Held.{Held}
+use Rattle.held.specs.Records.{free}
+use Rattle.transmit.specs.declared.Queue.{Queue}
+use Rattle.transmit.specs.Take.{goOn, TakeEffect, transmitTake}
+use Rattle.transmit.specs.Finish.{FinishEffect, transmitFinish}
 use Rattle.receive.specs.Put.{receivePut}
 
 abbrev pub zeros : ℕ → List ℕ
@@ -90,20 +94,31 @@ range start n = grantWord 3 start n
 abbrev pub window : List ℕ
 window = zeros 4096
 
--- a transmit call with a frame buffer of so many bytes; the usual one, on all of these slots and with room for every frame
-abbrev pub takesOn : Queue → (page : List ℕ) (room : ℕ) → Effect
-takesOn q page room = transmitTake grants window q page (zeros room)
+-- so many free records
+abbrev pub records : ℕ → List Held
+records n = replicate n free
 
-abbrev pub takes : List Slot → Effect
-takes slots = takesOn (goOn 0) (ringPage (length slots) slots) 65535
+-- a take with a frame buffer of so many bytes; the usual one, on all of these slots, with room for every frame and a free record
+abbrev pub takesOn : Queue → (page : List ℕ) (room : ℕ) → List Held → TakeEffect
+takesOn q page room l = transmitTake grants window q page (zeros room) l
+
+abbrev pub takes : List Slot → TakeEffect
+takes slots = takesOn (goOn 0 0) (ringPage (length slots) slots) 65535 (records 1)
 
 -- the same with another table
-abbrev pub takesBy : (table : List ℕ) → List Slot → Effect
-takesBy table slots = transmitTake table window (goOn 0) (ringPage (length slots) slots) (zeros 65535)
+abbrev pub takesBy : (table : List ℕ) → List Slot → TakeEffect
+takesBy table slots = transmitTake table window (goOn 0 0) (ringPage (length slots) slots) (zeros 65535) (records 1)
+
+-- a take and a finish on what a take left
+abbrev pub thenTakes : TakeEffect → TakeEffect
+thenTakes o = takesOn (o .queue) (o .page) 65535 (o .list)
+
+abbrev pub thenFinishes : TakeEffect → (ticket status : ℕ) → FinishEffect
+thenFinishes o ticket status = transmitFinish (o .queue .consumed) (o .queue .replied) (o .page) (o .list) ticket status
 
 -- a receive call on all of these requests with a frame of so many bytes
 abbrev pub putsBy : (table : List ℕ) → List Slot → ℕ → Effect
-putsBy table requests n = receivePut table (goOn 0) (ringPage (length requests) requests) window (zeros n)
+putsBy table requests n = receivePut table (queueOf 0 0) (ringPage (length requests) requests) window (zeros n)
 
 abbrev pub puts : List Slot → ℕ → Effect
 puts requests n = putsBy grants requests n
@@ -127,20 +142,49 @@ shape l = onCut (divide l) (λ d e. 0 ∷ d ∷ e ∷ []) (6 ∷ []) (5 ∷ [])
 -- ---- what is asked of a call
 
 -- the answer, the cause and the place
-abbrev pub answered : Effect → List ℕ
+abbrev pub answered : TakeEffect → List ℕ
 answered o = o .report .answer ∷ o .report .cause ∷ o .report .place ∷ []
 
 -- slots, notify, total and the gso fields
-abbrev pub reported : Effect → List ℕ
+abbrev pub reported : TakeEffect → List ℕ
 reported o = o .report .slots ∷ o .report .notifies ∷ o .report .total ∷ o .report .gsoSizeWord ∷ o .report .gsoTypeWord ∷ []
 
 -- the answer, and what is left: the counter, the mark, and req_event on the page
-abbrev pub state : Effect → List ℕ
+abbrev pub state : TakeEffect → List ℕ
 state o = o .report .answer ∷ o .queue .consumed ∷ flag (o .queue .halted) ∷ u32At (o .page) 4 ∷ []
 
+abbrev pub putState : Effect → List ℕ
+putState o = o .report .answer ∷ o .queue .consumed ∷ flag (o .queue .halted) ∷ u32At (o .page) 4 ∷ []
+
 -- the bytes of slot n, and of request n, on the page
-abbrev pub slotOf : Effect → ℕ → List ℕ
+abbrev pub slotOf : FinishEffect → ℕ → List ℕ
 slotOf o n = transmitSlot (o .page) n
 
 abbrev pub requestOf : Effect → ℕ → List ℕ
 requestOf d n = receiveSlot (d .page) n
+
+-- of a take: the answer, slots, notify and ticket; what is left of both counters, the mark and rsp_prod
+abbrev pub takeWords : TakeEffect → List ℕ
+takeWords o =
+    o .report .answer
+    ∷ o .report .slots
+    ∷ o .report .notifies
+    ∷ o .report .ticketWord
+    ∷ o .queue .consumed
+    ∷ o .queue .replied
+    ∷ flag (o .queue .halted)
+    ∷ rspProd (o .page)
+    ∷ []
+
+-- of a finish: the answer, slots and notify; what is left of the counter of replies sent and rsp_prod
+abbrev pub finishWords : FinishEffect → List ℕ
+finishWords o = o .report .answer ∷ o .report .slots ∷ o .report .notifies ∷ o .replied ∷ rspProd (o .page) ∷ []
+
+-- the words of records
+abbrev pub recordWords : List Held → List ℕ
+recordWords [] = []
+recordWords (r ∷ l) = r .ticket ∷ r .slots ∷ r .extras ∷ r .status ∷ r .finished ∷ recordWords l
+
+-- the id and the status at slot n
+abbrev pub replyOf : FinishEffect → ℕ → List ℕ
+replyOf o n = take 4 (slotOf o n)

@@ -7,13 +7,11 @@ use lib.ListN.{length, replicate}
 use Rattle.words.specs.Word.{u32At, u32Bytes}
 use Rattle.ring.specs.Ring.{pageSize}
 use Rattle.netif.specs.Slot.{transmitSlot}
-use Rattle.answer.specs.Report.{goOn}
-use Rattle.answer.specs.Effect.{Effect}
-use Rattle.transmit.specs.Take.{transmitTake}
+use Rattle.transmit.specs.Take.{goOn, TakeEffect, transmitTake}
 use Rattle.frontend.specs.declared.Gso.{Gso}
 use Rattle.frontend.specs.declared.Gso.the-variants.{Absent, Given}
 use Rattle.frontend.specs.Post.{Posting, post}
-use Rattle.examples.specs.Calls.{zeros, grantWord, pageWord, reported}
+use Rattle.examples.specs.Calls.{zeros, grantWord, pageWord, records, reported}
 use Rattle.examples.specs.Examples.{Row, _∣_⇒_}
 
 -- of the references 0 to 5, 0 and 1 grant the window's two pages, 2 is read only, 3 names page 0 too, 4 a page behind the window, and 5 all
@@ -36,11 +34,11 @@ ownPage n = let b = u32Bytes n ++ u32Bytes (suc n) in b ++ zeros (pageSize - len
 abbrev pub postsOn : (page : List ℕ) (read : ℕ) → Gso → (refs frame : List ℕ) → Posting
 postsOn page read o refs frame = post ownGrants page ownWindow read o refs frame
 
--- and taken at counter n with room for so many bytes
-abbrev pub takesAt : (n room : ℕ) (window page : List ℕ) → Effect
-takesAt n room window page = transmitTake ownGrants window (goOn n) page (zeros room)
+-- and taken at counter n with room for so many bytes and a free record
+abbrev pub takesAt : (n room : ℕ) (window page : List ℕ) → TakeEffect
+takesAt n room window page = transmitTake ownGrants window (goOn n n) page (zeros room) (records 1)
 
-abbrev pub takesBack : (n room : ℕ) → Posting → Effect
+abbrev pub takesBack : (n room : ℕ) → Posting → TakeEffect
 takesBack n room d = takesAt n room (d .window) (d .page)
 
 -- the answer, slots, notify, and req_prod
@@ -56,7 +54,7 @@ postRows =
     ∷ ("4097 bytes with gso: the last slot" ∣ transmitSlot (postsOn (ownPage 5) 5 (Given 1460 1) (1 ∷ 0 ∷ []) (sevens 4097) .page) 7 ⇒ 0 ∷ 0 ∷ 0 ∷ 0 ∷ 0 ∷ 0 ∷ 0 ∷ 0 ∷ 7 ∷ 0 ∷ 1 ∷ 0 ∷ [])
     ∷ ("across the wrap: the answer, slots, notify, req_prod" ∣ postedWords (postsOn (ownPage 4294967295) 4294967295 (Given 1460 1) (1 ∷ 0 ∷ []) (sevens 4097)) ⇒ 0 ∷ 3 ∷ 1 ∷ 2 ∷ [])
     ∷ ("posted, then taken: slots, notify, total, gso size, gso type" ∣ reported (takesBack 5 60 (postsOn (ownPage 5) 5 (Given 1460 1) (1 ∷ []) (sevens 60))) ⇒ 2 ∷ 0 ∷ 60 ∷ 1460 ∷ 1 ∷ [])
-    ∷ ("posted, then taken: the frame" ∣ takesBack 5 16 (postsOn (ownPage 5) 5 Absent (1 ∷ []) (sevens 16)) .buffer ⇒ sevens 16)
+    ∷ ("posted, then taken: the frame" ∣ takesBack 5 16 (postsOn (ownPage 5) 5 Absent (1 ∷ []) (sevens 16)) .frame ⇒ sevens 16)
     ∷ ("a page of 4095 bytes: bad page" ∣ postedWords (postsOn (zeros 4095) 0 (Given 0 0) [] []) ⇒ 1 ∷ 0 ∷ 0 ∷ 0 ∷ [])
     ∷ ("13 bytes: bad frame length, before gso" ∣ postedWords (postsOn (ownPage 5) 5 (Given 0 1) (1 ∷ []) (sevens 13)) ⇒ 9 ∷ 0 ∷ 0 ∷ 5 ∷ [])
     ∷ ("gso size 0: bad gso, before the list" ∣ postedWords (postsOn (ownPage 5) 5 (Given 0 1) [] (sevens 60)) ⇒ 13 ∷ 0 ∷ 0 ∷ 5 ∷ [])

@@ -11,13 +11,15 @@ use borrow.Author.Tests.{not-false}
 use Rattle.grant.specs.Grant.{inRange, fitTransmit}
 use Rattle.netif.specs.Slot.{Slot, gref, offset, size}
 use Rattle.grammar.specs.Packet.{firstOf, laterOf, sizes}
-use Rattle.answer.specs.declared.Queue.{Queue}
+use Rattle.transmit.specs.declared.Queue.{Queue}
 use Rattle.answer.specs.declared.Verdict.{Verdict}
 use Rattle.answer.specs.declared.Verdict.the-variants.{Good, Bad}
 use Rattle.grammar.proofs.Grammar.{divide-whole, front-slots}
 use Rattle.ring.specs.Ring.{posted}
-use Rattle.answer.specs.Effect.{refusal, consume}
-use Rattle.transmit.specs.Take.{waitingSlots, summaryOf, spoiled, handedOver, takePacket, Look, stop, ready, lookFront, look, takeOf, transmitTake}
+use Rattle.held.specs.declared.Held.{Held}
+use Rattle.held.specs.Records.{full}
+use Rattle.held.specs.Valid.{valid}
+use Rattle.transmit.specs.Take.{TakeEffect, refusal, overflow, waitingSlots, summaryOf, spoiled, handedOver, takePacket, Look, stop, ready, lookFront, look, takeOf, transmitTake}
 use Rattle.answer.specs.Verdict.{_orElse_, test}
 use Rattle.packet.specs.Judge.{totalOf, ownPart, judgeSlot, judgeLater, judge}
 use Rattle.packet.proofs.Judge.{orElse-good, test-good, good-parts, good-sizes}
@@ -55,45 +57,55 @@ pub fewest : Fewest
 unfolding Fewest needed
 fewest table window e p k h = omega (arith, total-short table window e p h, length-drop (suc e) p)
 
--- ---- of a call
+-- ---- of a take
 
-module _ (table window : List ℕ) (q : Queue) (page buffer : List ℕ) where
+module _ (table window : List ℕ) (q : Queue) (page buffer : List ℕ) (records : List Held) where
   -- an answer that is not done
-  pass : (b : Bool) (n : ℕ) (y : Look) → takeOf table window q page buffer (cond b (stop (suc n)) y) .report .answer ≡ 0 → cond b (stop (suc n)) y ≡ y
+  pass : (b : Bool) (n : ℕ) (y : Look) → takeOf table window q page buffer records (cond b (stop (suc n)) y) .report .answer ≡ 0 → cond b (stop (suc n)) y ≡ y
   pass true n y h = absurd (omega arith)
   pass false n y h = refl
 
-  look-done : transmitTake table window q page buffer .report .answer ≡ 0 → look table window q page ≡ lookFront table window q page
+  look-done : transmitTake table window q page buffer records .report .answer ≡ 0 → look table window q page records ≡ lookFront table window (q .consumed) page
   unfolding transmitTake look
   look-done h =
       let a = pass (not (eqb (length page) 4096)) 0 _ h in
       let h1 = rw a at h in
-      let b = pass (q .halted) 1 _ h1 in
+      let b = pass (not (valid (q .consumed) (q .replied) records)) 16 _ h1 in
       let h2 = rw b at h1 in
-      let c = pass (ltb 256 (posted page (q .consumed))) 2 _ h2 in
+      let c = pass (q .halted) 1 _ h2 in
       let h3 = rw c at h2 in
-      a ∙ b ∙ c ∙ pass (eqb (posted page (q .consumed)) 0) 3 _ h3
+      let d = pass (overflow (q .consumed) (q .replied) page) 2 _ h3 in
+      let h4 = rw d at h3 in
+      a ∙ b ∙ c ∙ d ∙ pass (eqb (posted page (q .consumed)) 0) 3 _ h4
 
   -- a packet that is done is good, and its total is reported
-  packet-done : (e : ℕ) (p : List Slot) (v : Verdict) → takePacket table window q page buffer e p v .report .answer ≡ 0
-      → (v ≡ Good) × (takePacket table window q page buffer e p v .report .total ≡ totalOf p)
-  unfolding spoiled handedOver consume summaryOf
-  packet-done e p (Bad cause place) h = absurd (omega arith)
-  packet-done e p Good h = go (ltb (length buffer) (totalOf p)) h
+  packet-done : (e : ℕ) (p : List Slot) (v : Verdict) → takePacket table window q page buffer records e p v .report .answer ≡ 0
+      → (v ≡ Good) × (takePacket table window q page buffer records e p v .report .total ≡ totalOf p)
+  unfolding spoiled handedOver summaryOf
+  packet-done e p (Bad cause place) h = go (full records) h
     where
-      go : (b : Bool) → cond b (refusal 8 q page buffer) (handedOver table window (q .consumed) page buffer e p) .report .answer ≡ 0
-          → (Good ≡ Good) × (cond b (refusal 8 q page buffer) (handedOver table window (q .consumed) page buffer e p) .report .total ≡ totalOf p)
+      go : (b : Bool) → cond b (refusal 14 q page buffer records) (spoiled q page buffer records e p cause place) .report .answer ≡ 0
+          → (Bad cause place ≡ Good) × (cond b (refusal 14 q page buffer records) (spoiled q page buffer records e p cause place) .report .total ≡ totalOf p)
       go true h = absurd (omega arith)
-      go false h = (refl, refl)
+      go false h = absurd (omega arith)
+  packet-done e p Good h = go (ltb (length buffer) (totalOf p)) (full records) h
+    where
+      result : Bool → Bool → TakeEffect
+      result b f = cond b (refusal 8 q page buffer records) (cond f (refusal 14 q page buffer records) (handedOver table window q page buffer records e p))
+
+      go : (b f : Bool) → result b f .report .answer ≡ 0 → (Good ≡ Good) × (result b f .report .total ≡ totalOf p)
+      go true f h = absurd (omega arith)
+      go false true h = absurd (omega arith)
+      go false false h = (refl, refl)
 
 pub fewest-done : FewestDone
 unfolding FewestDone transmitTake Fewest
-fewest-done table window q page buffer d e cut h =
+fewest-done table window q page buffer records d e cut h =
     let l = waitingSlots page (q .consumed) in
     let p = take (d + e) l in
-    let a = look-done table window q page buffer h in
-    let r : look table window q page ≡ ready e p (judge table window e p) = a ∙ rw cut refl in
-    let (good, total) = packet-done table window q page buffer e p (judge table window e p) (rw r at h) in
+    let a = look-done table window q page buffer records h in
+    let r : look table window q page records ≡ ready e p (judge table window e p) = a ∙ rw cut refl in
+    let (good, total) = packet-done table window q page buffer records e p (judge table window e p) (rw r at h) in
     let f = divide-whole l d e cut in
     let (size, taken, left) = front-slots l d e f in
     let count : length p ≡ d + e = ap length taken ∙ size in

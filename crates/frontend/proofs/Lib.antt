@@ -7,7 +7,6 @@ pub mod Reading
 pub mod RoundTrip
 pub mod Fewest
 pub mod Searching
-pub mod Publishing
 pub mod Stored
 pub mod Naming
 pub mod Calls

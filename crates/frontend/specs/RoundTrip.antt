@@ -1,26 +1,25 @@
--- What is posted comes back from the transmit call, no packet of its total has fewer data slots, and posting is a publication as demand 3
--- has it.
+-- What is posted comes back from a take, and no packet of its total has fewer data slots.
 use mathlib.Core.Path.{_≡_}
+use mathlib.Core.Bool.{true, false}
 use mathlib.Core.List.{List, [], _∷_}
 use Prim.Native.Nat.{ℕ, _+_, _-_, _≤_, _<_}
 use lib.ListN.{length}
-use Rattle.words.specs.Word.{Bytes, splice}
+use Rattle.words.specs.Word.{splice}
 use Rattle.ring.specs.Ring.{wrap, pageSize, wadd, reqProd, posted}
-use Rattle.netif.specs.Slot.{Slot, slotCount, transmitSlot, transmitSlots}
-use Rattle.grammar.specs.Grammar.{Packet}
+use Rattle.netif.specs.Slot.{Slot, slotCount, transmitSlot}
 use Rattle.grammar.specs.Divide.{whole, divide}
-use Rattle.answer.specs.Report.{goOn}
-use Rattle.answer.specs.declared.Queue.{Queue}
 use Rattle.answer.specs.declared.Verdict.the-variants.{Good}
 use Rattle.grant.specs.Grant.{pageOf}
 use Rattle.grant.specs.Lookup.{SameWord, SamePage}
 use Rattle.packet.specs.Judge.{totalOf, judge}
-use Rattle.answer.specs.Effect.{Effect}
-use Rattle.transmit.specs.Take.{waitingSlots, transmitTake}
-use Rattle.transmit.specs.Sequence.{State, Published}
+use Rattle.held.specs.declared.Held.{Held}
+use Rattle.held.specs.Records.{full, added, waiting}
+use Rattle.held.specs.Valid.{between, valid}
+use Rattle.transmit.specs.declared.Queue.{Queue}
+use Rattle.transmit.specs.Take.{goOn, TakeEffect, waitingSlots, transmitTake}
 use Rattle.receive.specs.Put.{needed}
 use Rattle.frontend.specs.declared.Gso.{Gso}
-use Rattle.frontend.specs.Post.{sizeGiven, typeGiven, slotsFor, usedRefs, packetOf, post}
+use Rattle.frontend.specs.Post.{gsoExtras, sizeGiven, typeGiven, slotsFor, usedRefs, post}
 
 -- references of 32 bits
 abbrev pub Refs : List ℕ → Type 0
@@ -37,62 +36,73 @@ SameGrants table window table′ window′ (g ∷ l) = SameWord table table′ g
 pub record SameSlots (page page′ : List ℕ) (c n more : ℕ) : Type 0 where
   pub size : length page′ ≡ pageSize
   pub requests : reqProd page′ ≡ wadd (reqProd page) more
-  pub few : n + more ≤ slotCount
   pub slots : (i : ℕ) → i < n → transmitSlot page′ (c + i) ≡ transmitSlot page (c + i)
 
--- the frame and the gso fields came back: done, with the frame in the buffer's first bytes
-pub record ComesBack (o : Gso) (frame buffer : List ℕ) (c n : ℕ) (r : Effect) : Type 0 where
+-- room for the frame in a take at counter c, lent a counter of replies sent, a list of records and a frame buffer
+pub record HasRoom (c replied : ℕ) (records : List Held) (frame buffer : List ℕ) : Type 0 where
+  -- the buffer is as long as the frame: else the answer is 8
+  pub long : length frame ≤ length buffer
+  -- a record is free: else it is 14
+  pub recordFree : full records ≡ false
+  -- the list is valid for the two counters: else it is 17
+  pub sound : valid c replied records ≡ true
+
+-- the slots held before counter c, and n from there on, are at most a ring: else the answer is 3
+unfoldable pub FitsRing : (c replied n : ℕ) → Type 0
+FitsRing c replied n = between c replied + n ≤ slotCount
+
+-- a count of replies read is not past a counter of replies sent: of the slots up to req_prod it leaves no fewer
+unfoldable pub NotPast : (page : List ℕ) (read replied : ℕ) → Type 0
+NotPast page read replied = posted page replied ≤ posted page read
+
+-- the frame and the gso fields came back: done, with the frame in the buffer's first bytes. The packet is held in a record, and no reply
+-- has left
+pub record ComesBack (o : Gso) (frame buffer : List ℕ) (c replied : ℕ) (page : List ℕ) (records : List Held) (n : ℕ) (r : TakeEffect) : Type 0 where
   pub done : r .report .answer ≡ 0
   pub noCause : r .report .cause ≡ 0
   pub noPlace : r .report .place ≡ 0
   pub slots : r .report .slots ≡ n
+  pub quiet : r .report .notifies ≡ 0
   pub total : r .report .total ≡ length frame
   pub blank : r .report .blank ≡ 0
   pub validated : r .report .validated ≡ 0
   pub gsoSizes : r .report .gsoSizeWord ≡ sizeGiven o
   pub gsoTypes : r .report .gsoTypeWord ≡ typeGiven o
-  pub queue : r .queue ≡ goOn (wadd c n)
-  pub frameBytes : r .buffer ≡ splice buffer 0 frame
+  pub ticket : r .report .ticketWord ≡ c
+  pub queue : r .queue ≡ goOn (wadd c n) replied
+  pub pageStays : r .page ≡ page
+  pub frameBytes : r .frame ≡ splice buffer 0 frame
+  pub held : r .list ≡ added records (waiting c n (gsoExtras o))
 
--- what is posted, with its slots, req_prod, pages and grants untouched since, comes back from the transmit call at its first slot, unhalted
--- and with room
+-- what is posted, with its slots, req_prod, pages and grants untouched since, comes back from a take at its first slot, unhalted and with
+-- room
 unfoldable pub RoundTrip : Type 0
 RoundTrip =
     (table window page : List ℕ) (read : ℕ) (o : Gso) (refs frame : List ℕ) → Refs refs → sizeGiven o < 65536
     → post table page window read o refs frame .report .answer ≡ 0
-    → (table′ window′ page′ buffer : List ℕ) (more : ℕ)
+    → (table′ window′ page′ buffer : List ℕ) (replied : ℕ) (records : List Held) (more : ℕ)
     → SameGrants table (post table page window read o refs frame .window) table′ window′ (usedRefs refs frame)
     → SameSlots (post table page window read o refs frame .page) page′ (reqProd page) (slotsFor o (length frame)) more
-    → length frame ≤ length buffer
-    → ComesBack o frame buffer (reqProd page) (slotsFor o (length frame)) (transmitTake table′ window′ (goOn (reqProd page)) page′ buffer)
+    → FitsRing (reqProd page) replied (slotsFor o (length frame) + more)
+    → HasRoom (reqProd page) replied records frame buffer
+    → ComesBack o frame buffer (reqProd page) replied page′ records (slotsFor o (length frame))
+    (transmitTake table′ window′ (goOn (reqProd page) replied) page′ buffer records)
+
+-- with nothing posted behind it, and a count of replies read not past the replies sent, it fits the ring
+unfoldable pub PostFits : Type 0
+PostFits =
+    (table window page : List ℕ) (read : ℕ) (o : Gso) (refs frame : List ℕ)
+    → post table page window read o refs frame .report .answer ≡ 0
+    → (replied : ℕ) → NotPast page read replied
+    → FitsRing (reqProd page) replied (slotsFor o (length frame))
 
 -- no packet of a total with fewer data slots is done
 unfoldable pub Fewest : Type 0
 Fewest = (table window : List ℕ) (e : ℕ) (p : List Slot) → e < length p → judge table window e p ≡ Good → needed (totalOf p) ≤ length p - e
 
--- so too of a transmit call that takes d data slots
+-- so too of a take that takes d data slots
 unfoldable pub FewestDone : Type 0
 FewestDone =
-    (table window : List ℕ) (q : Queue) (page buffer : List ℕ) (d e : ℕ) → divide (waitingSlots page (q .consumed)) ≡ whole d e
-    → transmitTake table window q page buffer .report .answer ≡ 0
-    → needed (transmitTake table window q page buffer .report .total) ≤ d
-
--- ---- posting is a publication
-
--- a count of replies read is not past a counter of replies sent: of the slots up to req_prod it leaves no fewer
-unfoldable pub NotPast : (page : List ℕ) (read sent : ℕ) → Type 0
-NotPast page read sent = posted page sent ≤ posted page read
-
--- with a count not past the replies sent, posting is an instalment as demand 3 has it: no slot that is posted and not consumed is written
--- over, and at most 256 are then there. What joins the run is a packet
-pub record Publishes (s : State) (page : List ℕ) (p : List Slot) : Type 0 where
-  pub published : Published s page (length p)
-  pub joins : transmitSlots page (reqProd (s .page)) (length p) ≡ p
-  pub packet : Packet p
-
-unfoldable pub PostPublishes : Type 0
-PostPublishes =
-    (table window : List ℕ) (s : State) (read : ℕ) (o : Gso) (refs frame : List ℕ) → Bytes (s .page) → typeGiven o < 256
-    → NotPast (s .page) read (s .consumed)
-    → post table (s .page) window read o refs frame .report .answer ≡ 0
-    → Publishes s (post table (s .page) window read o refs frame .page) (packetOf (s .page) o refs frame)
+    (table window : List ℕ) (q : Queue) (page buffer : List ℕ) (records : List Held) (d e : ℕ) → divide (waitingSlots page (q .consumed)) ≡ whole d e
+    → transmitTake table window q page buffer records .report .answer ≡ 0
+    → needed (transmitTake table window q page buffer records .report .total) ≤ d

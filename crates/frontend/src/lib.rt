@@ -1,5 +1,5 @@
 // The guest's side of a transmit ring: what a frame posted as one packet asks for and answers. The functions are in `searching`,
-// `slots`, `posting`, `one_page` and `post`.
+// `encoding`, `posting`, `one_page` and `post`.
 
 // The gso fields that a packet carries, if any.
 pub enum Gso {

@@ -4,29 +4,41 @@ use mathlib.Core.List.{List}
 use mathlib.Core.Bool.{cond}
 use Prim.Native.Nat.{ℕ}
 use lib.Dec.{eqb}
-use Rattle.answer.specs.Words.{queueOf, reportWords, Left, Leaves}
+use Rattle.answer.specs.Words.{reportWords, Left, Leaves}
+use Rattle.answer.specs.Words.{queueOf as receiveQueueOf}
+use Rattle.held.specs.declared.Held.{Held}
 use Rattle.transmit.specs.Take.{transmitTake}
+use Rattle.transmit.specs.Finish.{transmitFinish}
+use Rattle.transmit.specs.Words.{queueOf, TakeLeft, TakeLeaves, FinishLeft, FinishLeaves}
 use Rattle.receive.specs.Put.{receivePut}
 use Rattle.frontend.specs.declared.Gso.{Gso}
 use Rattle.frontend.specs.declared.Gso.the-variants.{Absent, Given}
 use Rattle.frontend.specs.Post.{post}
 
--- a transmit call, lent grants, a window, a queue's words, a ring page and a frame buffer
-abbrev pub TransmitLeaves : (grants window : List ℕ) (consumed mark : ℕ) (ring frame : List ℕ) → Left → Type 0
-TransmitLeaves grants window consumed mark ring frame l = Leaves (transmitTake grants window (queueOf consumed mark) ring frame) mark l
+-- a take, lent grants, a window, a queue's three words, a ring page, a list of records and a frame buffer
+abbrev pub TakeCallLeaves : (grants window : List ℕ) (consumed replied mark : ℕ) (ring : List ℕ) (list : List Held) (frame : List ℕ) → TakeLeft → Type 0
+TakeCallLeaves grants window consumed replied mark ring list frame l = TakeLeaves (transmitTake grants window (queueOf consumed replied mark) ring frame list) mark l
 
--- a receive call, lent grants, a window, a queue's words, a ring page and a frame
+-- a finish, lent a queue's two counters, a ring page and a list of records, with a ticket and its status
+abbrev pub FinishCallLeaves : (consumed replied : ℕ) (ring : List ℕ) (list : List Held) (ticket status : ℕ) → FinishLeft → Type 0
+FinishCallLeaves consumed replied ring list ticket status l = FinishLeaves (transmitFinish consumed replied ring list ticket status) l
+
+-- a receive call, lent grants, a window, a queue's two words, a ring page and a frame
 abbrev pub ReceiveLeaves : (grants window : List ℕ) (consumed mark : ℕ) (ring frame : List ℕ) → Left → Type 0
-ReceiveLeaves grants window consumed mark ring frame l = Leaves (receivePut grants (queueOf consumed mark) ring window frame) mark l
+ReceiveLeaves grants window consumed mark ring frame l = Leaves (receivePut grants (receiveQueueOf consumed mark) ring window frame) mark l
 
 -- what each leaves, lent on, says the queue that the definition leaves: the next call goes on with it
-unfoldable pub LentOn : Type 0
-LentOn =
-    (grants window : List ℕ) (consumed mark : ℕ) (ring frame : List ℕ) (l : Left)
-    → (TransmitLeaves grants window consumed mark ring frame l
-    → queueOf (l .consumed) (l .mark) ≡ transmitTake grants window (queueOf consumed mark) ring frame .queue)
-    × (ReceiveLeaves grants window consumed mark ring frame l
-    → queueOf (l .consumed) (l .mark) ≡ receivePut grants (queueOf consumed mark) ring window frame .queue)
+pub record LentOn : Type 0 where
+  pub takes : (grants window : List ℕ) (consumed replied mark : ℕ) (ring : List ℕ) (list : List Held) (frame : List ℕ) (l : TakeLeft)
+      → TakeCallLeaves grants window consumed replied mark ring list frame l
+      → queueOf (l .consumed) (l .replied) (l .mark) ≡ transmitTake grants window (queueOf consumed replied mark) ring frame list .queue
+  -- a finish is not lent the mark, and leaves the counter of slots consumed
+  pub finishes : (consumed replied mark : ℕ) (ring : List ℕ) (list : List Held) (ticket status : ℕ) (l : FinishLeft)
+      → FinishCallLeaves consumed replied ring list ticket status l
+      → queueOf consumed (l .replied) mark ≡ queueOf consumed (transmitFinish consumed replied ring list ticket status .replied) mark
+  pub receives : (grants window : List ℕ) (consumed mark : ℕ) (ring frame : List ℕ) (l : Left)
+      → ReceiveLeaves grants window consumed mark ring frame l
+      → receiveQueueOf (l .consumed) (l .mark) ≡ receivePut grants (receiveQueueOf consumed mark) ring window frame .queue
 
 -- the gso that three words say: none where the first is 0
 unfoldable pub gsoOf : (given size type : ℕ) → Gso

@@ -43,18 +43,22 @@ pub fn begin(name: &[u8], ring: &[u8], consumed: u32) {
     number(b" consumed ", consumed);
 }
 
-// The report's words that every answer has.
-fn outcome(report: &[u32; 10]) {
+// The report's words that every answer has, but slots and notify.
+fn outcome(report: &[u32; 11]) {
     number(b" answer ", report[0]);
     answer(report[0]);
     number(b" cause ", report[1]);
     number(b" place ", report[2]);
+}
+
+// Slots and notify of a report.
+fn replies(report: &[u32; 11]) {
     number(b" slots ", report[3]);
     number(b" notify ", report[4]);
 }
 
-// Those of a call that is done.
-fn summary(report: &[u32; 10]) {
+// The words of a call that is done, but the ticket.
+fn summary(report: &[u32; 11]) {
     number(b" total ", report[5]);
     number(b" blank ", report[6]);
     number(b" validated ", report[7]);
@@ -62,23 +66,28 @@ fn summary(report: &[u32; 10]) {
     number(b" ", report[9]);
 }
 
-// The ten words of a report, and the checksums of the frame and of the ring page.
-fn told(report: &[u32; 10], frame: u32, page: u32) {
+// Ten words of a report, slots and notify of them from another, and the checksums of the frame and of the ring page.
+fn told(report: &[u32; 11], replied: &[u32; 11], frame: u32, page: u32) {
     outcome(report);
+    replies(replied);
     summary(report);
     sum(b" frame ", frame);
     sum(b" page ", page);
 }
 
-// The rest of a transmit call's line.
-pub fn end_transmit(report: &[u32; 10], frame: u32, page: u32) {
-    told(report, frame, page);
+// The rest of a take's line: the slots and notify of a done one are those of its finish.
+pub fn end_transmit(report: &[u32; 11], finish: &[u32; 11], frame: u32, page: u32) {
+    if report[0] == 0 {
+        told(report, finish, frame, page);
+    } else {
+        told(report, report, frame, page);
+    }
     text(b"\n");
 }
 
 // The rest of a receive call's line, with the checksum of the window.
-pub fn end_receive(report: &[u32; 10], frame: u32, page: u32, window: u32) {
-    told(report, frame, page);
+pub fn end_receive(report: &[u32; 11], frame: u32, page: u32, window: u32) {
+    told(report, report, frame, page);
     sum(b" window ", window);
     text(b"\n");
 }

@@ -10,16 +10,16 @@ use lib.Seq.{length-take-le, getD-take}
 use lib.Dec.{leb}
 use borrow.Author.Tests.{leb-true}
 use Rattle.words.proofs.Word.{and-both}
-use Rattle.interface.specs.Interface.{TransmitLeaves, ReceiveLeaves}
+use Rattle.interface.specs.Interface.{ReceiveLeaves}
+use Rattle.at_once.specs.Call.{Ring, Called}
 use Rattle.replay.specs.Pattern.{Counted}
 use Rattle.replay.specs.Calls.{takes, mostCalls, lengths, lengthOf, FrameOf, TransmitCalled, TransmitCalls, ReceiveCalled, ReceiveCalls}
 
 -- a call with its answer
-pub transmit-called : {grants window ring ringAfter frame words : List ℕ} {consumed mark answer consumedAfter markLeft : ℕ} {took : Bool}
-    → TransmitLeaves grants window consumed mark ring (replicate 65535 0)
-    (record { returned = answer; consumed = consumedAfter; mark = markLeft; page = ringAfter; buffer = frame; words = words })
-    → took ≡ takes answer → TransmitCalled grants window consumed mark ring took consumedAfter markLeft ringAfter
-transmit-called left answered = record { answer = _; frame = _; words = _; left = left; answered = answered }
+pub transmit-called : {grants window frame report finish : List ℕ} {before after : Ring} {answer : ℕ} {took : Bool}
+    → Called grants window (replicate 65535 0) (replicate 11 0) before answer after frame report finish → took ≡ takes answer
+    → TransmitCalled grants window before took after
+transmit-called called answered = record { answer = _; frame = _; report = _; finish = _; called = called; answered = answered }
 
 pub receive-called : {grants ring window ringAfter windowAfter frame words : List ℕ} {call consumed mark answer consumedAfter markLeft : ℕ} {took : Bool}
     → FrameOf call frame
@@ -29,14 +29,13 @@ pub receive-called : {grants ring window ringAfter windowAfter frame words : Lis
 receive-called delivers left answered = record { answer = _; frame = _; words = _; delivers = delivers; left = left; answered = answered }
 
 -- a call that takes something, and those behind it; and one that takes nothing
-pub transmit-more : {grants window after ring ring′ : List ℕ} {call consumed mark consumed′ mark′ : ℕ} {took : Bool} → call < mostCalls → took ≡ true
-    → TransmitCalled grants window consumed mark ring took consumed′ mark′ ring′
-    → TransmitCalls grants window after (call + 1) consumed′ mark′ ring′ → TransmitCalls grants window after call consumed mark ring
+pub transmit-more : {grants window after : List ℕ} {r s : Ring} {call : ℕ} {took : Bool} → call < mostCalls → took ≡ true → TransmitCalled grants window r took s
+    → TransmitCalls grants window after (call + 1) s → TransmitCalls grants window after call r
 transmit-more h e c t = TransmitCalls.more h (rw e at c) (rw add-one at t)
 
-pub transmit-last : {grants window after ring : List ℕ} {call consumed mark consumed′ mark′ : ℕ} {took : Bool} → call < mostCalls → took ≡ false
-    → TransmitCalled grants window consumed mark ring took consumed′ mark′ after → TransmitCalls grants window after call consumed mark ring
-transmit-last h e c = TransmitCalls.last h (rw e at c)
+pub transmit-last : {grants window after : List ℕ} {r s : Ring} {call : ℕ} {took : Bool} → call < mostCalls → took ≡ false → TransmitCalled grants window r took s
+    → s .page ≡ after → TransmitCalls grants window after call r
+transmit-last h e c p = TransmitCalls.last h (rw e at c) p
 
 pub receive-more : {grants after windowAfter ring window ring′ window′ : List ℕ} {call consumed mark consumed′ mark′ : ℕ} {took : Bool} → call < mostCalls → took ≡ true
     → ReceiveCalled grants call consumed mark ring window took consumed′ mark′ ring′ window′

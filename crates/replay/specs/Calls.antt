@@ -5,8 +5,10 @@ use mathlib.Core.Bool.{Bool, true, false, _||_}
 use Prim.Native.Nat.{ℕ, suc, _+_, _*_, _%_, _<_}
 use lib.ListN.{length, replicate, getD}
 use lib.Dec.{eqb}
+use Rattle.ring.specs.Ring.{rspProd}
 use Rattle.netif.specs.Slot.{slotCount}
-use Rattle.interface.specs.Interface.{TransmitLeaves, ReceiveLeaves}
+use Rattle.interface.specs.Interface.{ReceiveLeaves}
+use Rattle.at_once.specs.Call.{Ring, Called}
 use Rattle.replay.specs.Pattern.{Counted}
 
 -- whether a call with this answer took something: done or spoiled
@@ -17,26 +19,25 @@ takes answer = eqb answer 0 || eqb answer 7
 abbrev pub mostCalls : ℕ
 mostCalls = slotCount + 1
 
--- a transmit call, lent a frame buffer of zeros
-pub record TransmitCalled (grants window : List ℕ) (consumed mark : ℕ) (ring : List ℕ) (took : Bool) (consumedAfter markLeft : ℕ)
-    (ringAfter : List ℕ) : Type 0 where
+-- a stored transmit ring: both counters are its rsp_prod, and it is not halted
+abbrev pub stored : List ℕ → Ring
+stored page = record { consumed = rspProd page; replied = rspProd page; mark = 0; page = page }
+
+-- a take that is finished at once, lent a frame buffer and reports of zeros
+pub record TransmitCalled (grants window : List ℕ) (before : Ring) (took : Bool) (after : Ring) : Type 0 where
   pub answer : ℕ
   pub frame : List ℕ
-  pub words : List ℕ
-  pub left : TransmitLeaves grants window consumed mark ring (replicate 65535 0)
-      (record { returned = answer; consumed = consumedAfter; mark = markLeft; page = ringAfter; buffer = frame; words = words })
+  pub report : List ℕ
+  pub finish : List ℕ
+  pub called : Called grants window (replicate 65535 0) (replicate 11 0) before answer after frame report finish
   pub answered : took ≡ takes answer
 
--- transmit calls from one number on, on a queue and a page, with this page at the end
-pub data TransmitCalls (grants window after : List ℕ) : (call consumed mark : ℕ) → List ℕ → Type 0 where
-  most : {consumed mark : ℕ} → TransmitCalls grants window after mostCalls consumed mark after
-  last : {call consumed mark consumedAfter markLeft : ℕ} {ring : List ℕ} → call < mostCalls
-      → TransmitCalled grants window consumed mark ring false consumedAfter markLeft after
-      → TransmitCalls grants window after call consumed mark ring
-  more : {call consumed mark consumedAfter markLeft : ℕ} {ring ringAfter : List ℕ} → call < mostCalls
-      → TransmitCalled grants window consumed mark ring true consumedAfter markLeft ringAfter
-      → TransmitCalls grants window after (suc call) consumedAfter markLeft ringAfter
-      → TransmitCalls grants window after call consumed mark ring
+-- transmit calls from one number on, on a ring, with this page at the end
+pub data TransmitCalls (grants window after : List ℕ) : (call : ℕ) → Ring → Type 0 where
+  most : {r : Ring} → r .page ≡ after → TransmitCalls grants window after mostCalls r
+  last : {call : ℕ} {r s : Ring} → call < mostCalls → TransmitCalled grants window r false s → s .page ≡ after → TransmitCalls grants window after call r
+  more : {call : ℕ} {r s : Ring} → call < mostCalls → TransmitCalled grants window r true s → TransmitCalls grants window after (suc call) s
+      → TransmitCalls grants window after call r
 
 -- the lengths of the frames that receive calls deliver, in turn
 abbrev pub lengths : List ℕ

@@ -5,7 +5,7 @@ ghost use lib.ListN.{length};
 ghost use Rattle.ring.specs.Ring.{rspProd};
 ghost use Rattle.io.specs.Counts.{Counts};
 ghost use Rattle.replay.specs.Pattern.{Counted};
-ghost use Rattle.replay.specs.Calls.{takes, mostCalls, lengthOf, TransmitCalled, TransmitCalls, ReceiveCalled, ReceiveCalls};
+ghost use Rattle.replay.specs.Calls.{takes, mostCalls, lengthOf, stored, TransmitCalled, TransmitCalls, ReceiveCalled, ReceiveCalls};
 use lines::checksum;
 use lines::line;
 use netif::DataSlot;
@@ -32,48 +32,62 @@ fn took(answer: u32) -> bool
     answer == 0 || answer == 7
 }
 
-// A transmit call and its line; whether it took something.
+// A take, finished at once where it is done, and its line; whether it took something.
 fn transmit_call(
     name: &[u8],
     consumed: &mut u32,
+    replied: &mut u32,
     halted: &mut u32,
     page: &mut [u8],
     grants: &[u8],
     window: &[u8],
 ) -> bool
     ensures { λ r. ⌜
-        TransmitCalled (now (grants .entry)) (now (window .entry)) (now (consumed .entry)) (now (halted .entry))
-        (now (page .entry)) r (now (consumed .exit)) (now (halted .exit)) (now (page .exit)) ⌝ }
+        TransmitCalled (now (grants .entry)) (now (window .entry))
+        (record { consumed = now (consumed .entry); replied = now (replied .entry); mark = now (halted .entry); page = now (page .entry) })
+        r
+        (record { consumed = now (consumed .exit); replied = now (replied .exit); mark = now (halted .exit); page = now (page .exit) }) ⌝ }
 {
     let mut frame = [0u8; 65535];
-    let mut report = [0u32; 10];
+    let mut report = [0u32; 11];
+    let mut finish = [0u32; 11];
     line::begin(name, b" tx", *consumed);
-    let answer = tollmeander::tollmeander_transmit_take(
+    let answer = at_once::take(
         consumed,
+        replied,
         halted,
         page,
         grants,
         window,
         &mut frame,
         &mut report,
+        &mut finish,
     );
     let frame_sum = checksum::of_first(&frame, report[5]);
     let page_sum = checksum::of(page);
-    line::end_transmit(&report, frame_sum, page_sum);
+    line::end_transmit(&report, &finish, frame_sum, page_sum);
     took(answer)
 }
 
 // The calls on a transmit ring.
 pub fn transmit(name: &[u8], page: &mut [u8; 4096], grants: &[u8], window: &[u8])
     ensures { λ _. ⌜
-        TransmitCalls (now (grants .entry)) (now (window .entry)) (now (page .exit)) 0 (rspProd (now (page .entry))) 0
-        (now (page .entry)) ⌝ }
+        TransmitCalls (now (grants .entry)) (now (window .entry)) (now (page .exit)) 0 (stored (now (page .entry))) ⌝ }
 {
     let mut consumed = counter(page);
+    let mut replied = consumed;
     let mut halted: u32 = 0;
     let mut calls: u32 = 0;
     while calls < MOST_CALLS
-        && transmit_call(name, &mut consumed, &mut halted, page, grants, window)
+        && transmit_call(
+            name,
+            &mut consumed,
+            &mut replied,
+            &mut halted,
+            page,
+            grants,
+            window,
+        )
     {
         calls += 1;
     }
@@ -123,7 +137,7 @@ fn receive_call(
         (now (window .entry)) r (now (consumed .exit)) (now (halted .exit)) (now (page .exit)) (now (window .exit)) ⌝ }
 {
     let mut buffer = [0u8; 65535];
-    let mut report = [0u32; 10];
+    let mut report = [0u32; 11];
     let n = frame_of(call, &mut buffer);
     let frame = &buffer[..n];
     line::begin(name, b" rx", *consumed);

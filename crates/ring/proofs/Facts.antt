@@ -3,15 +3,18 @@
 use mathlib.Core.Path.{_≡_, sym, ap, _∙_}
 use mathlib.Core.Logic.{_≢_, _⊎_}
 use mathlib.Core.List.{List}
+use mathlib.Core.Bool.{false}
 use Prim.Native.Nat.{ℕ, _+_, _*_, _%_, _≤_, _<_}
 use native.Mathlib.Nat.{mod-mod-of-dvd, dvd-of-mod-eq-zero, zero-add}
 use native.Mathlib.Omega.{arith}
 use lib.ListN.{length, getD}
+use borrow.Author.Tests.{le-ltb}
 use Rattle.words.specs.Word.{u32At, u32Bytes, splice}
 use Rattle.words.proofs.Word.{splice-length, splice-before, splice-after, splice-inside, u32-same, u32-stored}
-use Rattle.ring.specs.Ring.{wrap, wadd, reqProd, reqEvent, rspProd, rspEvent, producerAt, withProducer, notify, withReqEvent, asking, slotPlace, slotAt}
+use Rattle.ring.specs.Ring.{wrap, wadd, wsub, reqProd, reqEvent, rspProd, rspEvent, eventOf, producerAt, withProducer, notify, withReqEvent, asking, slotPlace, slotAt}
 use Rattle.ring.specs.declared.Side.{Side}
 use Rattle.ring.specs.declared.Side.the-variants.{Requests, Replies}
+use Rattle.ring.proofs.Counters.{not-moved}
 use Rattle.ring.proofs.Ring.{same-turn, places-apart, reply-length, reply-header, reply-slot, reply-here, slot-length, header-slot}
 
 -- ---- slots of different counters
@@ -130,6 +133,11 @@ module _ (page : List ℕ) (header : 64 ≤ length page) (s : Side) (x : ℕ) wh
   pub notify-moved : (old new : ℕ) → notify s (withProducer s page x) old new ≡ notify s page old new
   unfolding withProducer notify
   notify-moved old new = rw (stored-above page header (producerAt s) x (omega (arith, producer-low s)) (producerAt s + 4) (omega arith))
+
+-- a counter that does not move is no event
+pub notify-none : (s : Side) (page : List ℕ) (c : ℕ) → notify s page c c ≡ false
+unfolding notify
+notify-none s page c = rw (not-moved c) (le-ltb (wsub c (eventOf s page)) 0 (omega arith))
 
 -- the backend's counter leaves the guest's, and the other way round
 module _ (page : List ℕ) (header : 64 ≤ length page) (x : ℕ) where

@@ -174,6 +174,15 @@ module _ (w n : ℕ) (some : 0 < n) where
       let e : length (splice page (slotPlace w n i) r) ≡ length page = reply-length page f i r (h .0) in
       replies-header rs (splice page (slotPlace w n i) r) (suc i) (omega arith) (h .1) j g ∙ reply-header page f i r (h .0) j g
 
+  -- and the bytes behind the slots
+  pub replies-behind : (rs : List (List ℕ)) (page : List ℕ) (i : ℕ) → 64 + w * n ≤ length page → Short w rs
+      → (j : ℕ) → 64 + w * n ≤ j → getD (withSlots w n page i rs) j 0 ≡ getD page j 0
+  replies-behind [] page i f h j g = refl
+  replies-behind (r ∷ rs) page i f h j g =
+      let e : length (splice page (slotPlace w n i) r) ≡ length page = reply-length page f i r (h .0) in
+      replies-behind rs (splice page (slotPlace w n i) r) (suc i) (omega arith) (h .1) j g
+      ∙ splice-after page (slotPlace w n i) r (reply-fits page f i r (h .0)) j (omega (arith, place-fits w n i (64 + w * n) some (omega arith), h .0))
+
   -- replies leave the slots behind them, as far as one turn of the ring
   pub replies-slot : (rs : List (List ℕ)) (page : List ℕ) (i : ℕ) → 64 + w * n ≤ length page → Short w rs
       → (j : ℕ) → i + length rs ≤ j → j < i + n → slotAt w n (withSlots w n page i rs) j ≡ slotAt w n page j

@@ -1,40 +1,67 @@
-// A whole packet at the counter: refused, or gathered and accepted, replied to and published.
+// A whole packet at the counter: refused, or gathered and accepted, if a record is free.
 ghost use mathlib.Core.Path.{_≡_};
 ghost use mathlib.Core.List.{List};
-ghost use Prim.Native.Nat.{ℕ, _<_};
+ghost use mathlib.Core.Bool.{Bool};
+ghost use Prim.Native.Nat.{ℕ, _≤_, _<_};
 ghost use lib.ListN.{length};
-ghost use Rattle.words.specs.Word.{splice};
 ghost use Rattle.ring.specs.Ring.{pageSize};
 ghost use Rattle.netif.specs.Slot.{Slot};
-ghost use Rattle.answer.specs.declared.Verdict.the-variants.{Good};
+ghost use Rattle.answer.specs.declared.Verdict.the-variants.{Bad};
 ghost use Rattle.grammar.specs.Packet.{laterOf};
 ghost use Rattle.grammar.specs.Stages.{outlineOf};
 ghost use Rattle.packet.specs.Stages.{SizesOf, packetAt, Ready};
-ghost use Rattle.packet.specs.Judge.{judge, frameOf};
-ghost use Rattle.answer.specs.Report.{goOn};
-ghost use Rattle.answer.specs.Effect.{Gives};
-ghost use Rattle.transmit.specs.Take.{spoiled, summaryOf, handedOver};
-ghost use Rattle.transmit.specs.Stages.{takeWhole};
-use answer::Answer;
-use answer::Outcome;
+ghost use Rattle.held.specs.declared.Held.{Held};
+ghost use Rattle.transmit.specs.declared.Answer.the-variants.{Done};
+ghost use Rattle.transmit.specs.Take.{goOn, summaryOf, takePacket};
+ghost use Rattle.transmit.specs.Stages.{Lent, Gives, RepliedNow, takeWhole};
 use answer::Summary;
 use answer::Verdict;
 use grammar::Outline;
-
-const OKAY: u16 = 0;
+use ring::Side;
+use transmit::Answer;
 
 const ERROR: u16 = 65535;
 
-// A spoiled packet: all its slots replied to and consumed.
-pub fn refuse(first: u32, o: Outline, cause: u8, place: u32, ring: &mut [u8]) -> Outcome
+// The replies to a spoiled packet leave at once, and rsp_prod goes behind them, if no packet is held before it. Whether to notify.
+fn reply_now(first: u32, replied: u32, slots: u32, extras: u32, ring: &mut [u8]) -> bool
+    requires { ⌜ (length (now ring) ≡ pageSize) × (slots ≤ 256) × (extras < slots) ⌝ }
+    ensures { λ r. ⌜ RepliedNow (now (ring .entry)) first replied slots extras (now (ring .exit)) r ⌝ }
+{
+    if first == replied {
+        replying::reply(ring, first, slots, extras, ERROR);
+        let new = ring::ahead(first, slots);
+        return ring::publish(ring, Side::Replies, first, new);
+    }
+    false
+}
+
+// A spoiled packet: consumed and finished with error, if a record is free.
+pub fn refuse(
+    first: u32,
+    replied: u32,
+    full: bool,
+    o: Outline,
+    cause: u8,
+    place: u32,
+    ring: &mut [u8],
+) -> Answer
     requires { ⌜ (length (now ring) ≡ pageSize) × Ready (now ring) first o ⌝ }
     ensures { λ r. ⌜
-        ((frame : List ℕ) → Gives
-        (spoiled first (now (ring .entry)) frame (o .extras) (packetAt (now (ring .entry)) first o) cause place)
-        r (now (ring .exit)) frame) ⌝ }
+        ((table window frame : List ℕ) (l : List Held) → Lent first replied full l → Gives
+        (takePacket table window (goOn first replied) (now (ring .entry)) frame l (o .extras) (packetAt (now (ring .entry)) first o) (Bad cause place))
+        (goOn first replied) l r (now (ring .exit)) frame) ⌝ }
 {
-    replying::reply(ring, first, o.slots, o.extras, ERROR);
-    answer::spoil(ring, first, o.slots, cause, place)
+    if full {
+        return Answer::NoRecord;
+    }
+    let notify = reply_now(first, replied, o.slots, o.extras, ring);
+    Answer::Spoiled {
+        cause,
+        place,
+        slots: o.slots,
+        extras: o.extras,
+        notify,
+    }
 }
 
 // What is reported of a packet with this outline.
@@ -54,38 +81,38 @@ fn summary_of(o: Outline) -> Summary
     }
 }
 
-// A good packet whose frame stands in the frame buffer: all its slots replied to and consumed.
-pub fn accept(first: u32, o: Outline, ring: &mut [u8]) -> Outcome
-    requires { ⌜ (length (now ring) ≡ pageSize) × Ready (now ring) first o ⌝ }
-    ensures { λ r. ⌜
-        ((table window frame : List ℕ) → Gives
-        (handedOver table window first (now (ring .entry)) frame (o .extras) (packetAt (now (ring .entry)) first o))
-        r (now (ring .exit))
-        (splice frame 0 (frameOf table window (o .extras) (packetAt (now (ring .entry)) first o)))) ⌝ }
+// A good packet whose frame stands in the frame buffer.
+pub fn accept(o: Outline) -> Answer
+    ensures { λ r. ⌜ ((p : List Slot) → o ≡ outlineOf (o .extras) p → r ≡ Done (summaryOf (o .extras) p) (o .extras)) ⌝ }
 {
-    replying::reply(ring, first, o.slots, o.extras, OKAY);
-    answer::finish(ring, first, summary_of(o))
+    let summary = summary_of(o);
+    Answer::Done {
+        summary,
+        extras: o.extras,
+    }
 }
 
-// A whole packet at the counter: judged, and then refused, or gathered and accepted if the frame buffer has room.
+// A whole packet at the counter: judged, and then refused, or gathered and accepted if the frame buffer has room and a record is free.
 pub fn settle(
     first: u32,
+    replied: u32,
+    full: bool,
     o: Outline,
     sizes: &mut [u16; 18],
     grants: &[u8],
     window: &[u8],
     ring: &mut [u8],
     frame: &mut [u8],
-) -> Outcome
+) -> Answer
     requires { ⌜
         (length (now ring) ≡ pageSize)
         × Ready (now ring) first o
         × SizesOf (now sizes) (laterOf (o .extras) (packetAt (now ring) first o))
         × (length (now sizes) ≡ 18) ⌝ }
     ensures { λ r. ⌜
-        Gives
-        (takeWhole (now (grants .entry)) (now (window .entry)) (goOn first) (now (ring .entry)) (now (frame .entry)) (o .extras) (packetAt (now (ring .entry)) first o))
-        r (now (ring .exit)) (now (frame .exit)) ⌝ }
+        ((l : List Held) → Lent first replied full l → Gives
+        (takeWhole (now (grants .entry)) (now (window .entry)) (goOn first replied) (now (ring .entry)) (now (frame .entry)) l (o .extras) (packetAt (now (ring .entry)) first o))
+        (goOn first replied) l r (now (ring .exit)) (now (frame .exit))) ⌝ }
 {
     let mut pages = [0u32; 18];
     let mut offsets = [0u16; 18];
@@ -100,14 +127,17 @@ pub fn settle(
         grants,
         window,
     ) {
-        Verdict::Bad { cause, place } => refuse(first, o, cause, place, ring),
+        Verdict::Bad { cause, place } => refuse(first, replied, full, o, cause, place, ring),
         Verdict::Good => {
             if frame.len() < head.size as usize {
-                return answer::stay(Answer::NoRoom, first);
+                return Answer::NoRoom;
+            }
+            if full {
+                return Answer::NoRecord;
             }
             let count = (o.slots - o.extras) as usize;
             gathering::gather(window, count, &pages, &offsets, sizes, frame);
-            accept(first, o, ring)
+            accept(o)
         }
     }
 }

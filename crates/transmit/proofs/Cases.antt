@@ -1,24 +1,24 @@
--- What a transmit call's definition comes to in each of its cases, and what it leaves of the ring page.
+-- What a take's definition comes to in each of its cases, and what it leaves of the ring page.
 use mathlib.Core.Path.{_≡_, refl, ap, _∙_}
 use mathlib.Core.List.{List, map}
-use mathlib.Core.Bool.{Bool, true, false}
+use mathlib.Core.Bool.{Bool, true, false, _||_}
 use Prim.Native.Nat.{ℕ, suc, _+_, _≤_, _<_}
 use native.Mathlib.Omega.{arith}
 use lib.ListN.{length, take, getD, length-append, length-take, length-drop, length-map}
-use lib.Dec.{eqb}
-use borrow.Author.Tests.{eq-eqb, ne-eqb, lt-ltb, le-ltb}
+use lib.Dec.{ltb, eqb}
+use borrow.Author.Tests.{eq-eqb, ne-eqb, lt-ltb, le-ltb, ltb-false}
 use Rattle.words.specs.Word.{u16Bytes, u32Bytes}
-use Rattle.ring.specs.Ring.{withProducer, wadd, reqProd, posted, asking, withReqEvent}
-use Rattle.ring.specs.declared.Side.the-variants.{Replies}
-use Rattle.ring.proofs.Facts.{producer-leaves-size, producer-leaves-slot, replies-leave-requests}
+use Rattle.ring.specs.Ring.{wsub, reqProd, posted, asking, withReqEvent}
+use Rattle.ring.proofs.Counters.{posted-left}
 use Rattle.netif.specs.Slot.{Slot, transmitReply, transmitSlot, transmitSlots}
 use Rattle.grammar.specs.Divide.{whole, beginning, misshapen, divide, onCut}
-use Rattle.answer.specs.declared.Queue.{Queue}
 use Rattle.packet.specs.Judge.{judge, dataReply, extraReply, repliesOf}
 use Rattle.grammar.specs.Packet.{firstOf, extrasOf, laterOf}
-use Rattle.answer.specs.Effect.{refusal}
-use Rattle.transmit.specs.Take.{takePacket, waitingSlots, repliesTo, Look, stop, ready, lookFront, look, takeOf, transmitTake, takeFront}
-use Rattle.words.proofs.Word.{splice-length, splice-before, u32-same}
+use Rattle.held.specs.declared.Held.{Held}
+use Rattle.held.specs.Valid.{between, valid}
+use Rattle.transmit.specs.declared.Queue.{Queue}
+use Rattle.transmit.specs.Take.{goOn, refusal, overflow, takePacket, waitingSlots, repliesTo, Look, stop, ready, lookFront, look, takeOf, transmitTake, takeFront}
+use Rattle.words.proofs.Word.{no-confusion, splice-length, splice-before, u32-same}
 use Rattle.ring.proofs.Ring.{Short, short-map, short-append, slots-length, replies-length, replies-header, replies-slot, header-slot}
 
 -- ---- the page
@@ -80,93 +80,102 @@ module _ (page : List ℕ) (size : length page ≡ 4096) (c slots e status : ℕ
       replies-slot 12 256 (omega arith) all page c (omega arith) (replies-short e _ status) j
       (omega (arith, replies-count e (transmitSlots page c slots) status (omega arith))) b
 
--- and with rsp_prod behind them
-abbrev pub repliedPage : List ℕ → (c slots e status : ℕ) → List ℕ
-repliedPage page c slots e status = withProducer Replies (repliesTo page c slots e status) (wadd c slots)
+module _ (table window : List ℕ) (q : Queue) (page : List ℕ) (l : List Held) where
+  -- ---- the cases of a take
 
-module _ (page : List ℕ) (size : length page ≡ 4096) (c slots e status : ℕ) where
-  abbrev answered : List ℕ
-  answered = repliesTo page c slots e status
-
-  header : 64 ≤ length answered
-  header = omega (arith, to-length page size c slots e status)
-
-  pub replied-length : length (repliedPage page c slots e status) ≡ 4096
-  replied-length = producer-leaves-size answered header Replies (wadd c slots) ∙ to-length page size c slots e status
-
-  pub replied-requests : reqProd (repliedPage page c slots e status) ≡ reqProd page
-  replied-requests =
-      replies-leave-requests answered header (wadd c slots)
-      ∙ u32-same answered page 0 (λ j a b. to-header page size c slots e status j (omega arith))
-
-  -- rsp_prod leaves the slots
-  pub replied-slots : (j : ℕ) → transmitSlot (repliedPage page c slots e status) j ≡ transmitSlot answered j
-  replied-slots j = producer-leaves-slot answered header Replies (wadd c slots) 12 256 (omega arith) (omega (arith, to-length page size c slots e status)) j
-
-  pub replied-slot : e < slots → (j : ℕ) → c + slots ≤ j → j < c + 256 → transmitSlot (repliedPage page c slots e status) j ≡ transmitSlot page j
-  replied-slot h j a b = replied-slots j ∙ to-slot page size c slots e status h j a b
-
-module _ (table window : List ℕ) (q : Queue) (page : List ℕ) where
-  -- ---- the cases of a call
-
-  pub take-of : (frame : List ℕ) (x : Look) → look table window q page ≡ x → transmitTake table window q page frame ≡ takeOf table window q page frame x
+  pub take-of : (frame : List ℕ) (x : Look) → look table window q page l ≡ x → transmitTake table window q page frame l ≡ takeOf table window q page frame l x
   unfolding transmitTake
-  take-of frame x h = ap (takeOf table window q page frame) h
+  take-of frame x h = ap (takeOf table window q page frame l) h
 
-  pub look-bad : eqb (length page) 4096 ≡ false → look table window q page ≡ stop 1
+  pub look-bad : eqb (length page) 4096 ≡ false → look table window q page l ≡ stop 1
   unfolding look
   look-bad h = rw h
 
   module _ (size : length page ≡ 4096) where
-    pub look-over : q .halted ≡ false → 256 < posted page (q .consumed) → look table window q page ≡ stop 3
+    pub look-unsound : valid (q .consumed) (q .replied) l ≡ false → look table window q page l ≡ stop 17
     unfolding look
-    look-over h k = rw (eq-eqb (length page) 4096 size, h, lt-ltb 256 (posted page (q .consumed)) k)
+    look-unsound h = rw (eq-eqb (length page) 4096 size, h)
 
-    pub look-front : q .halted ≡ false → posted page (q .consumed) ≤ 256 → (posted page (q .consumed) ≡ 0 → ⊥) → look table window q page ≡ lookFront table window q page
-    unfolding look
-    look-front h k n = rw (eq-eqb (length page) 4096 size, h, le-ltb 256 (posted page (q .consumed)) k, ne-eqb (posted page (q .consumed)) 0 n)
+    module _ (sound : valid (q .consumed) (q .replied) l ≡ true) where
+      pub look-halted : q .halted ≡ true → look table window q page l ≡ stop 2
+      unfolding look
+      look-halted h = rw (eq-eqb (length page) 4096 size, sound, h)
 
-    pub take-some : (frame : List ℕ) → q .halted ≡ false → posted page (q .consumed) ≤ 256 → (posted page (q .consumed) ≡ 0 → ⊥) → transmitTake table window q page frame ≡ takeFront table window q page frame
-    unfolding takeFront
-    take-some frame h k n = take-of frame (lookFront table window q page) (look-front h k n)
+      module _ (runs : q .halted ≡ false) where
+        pub look-over : overflow (q .consumed) (q .replied) page ≡ true → look table window q page l ≡ stop 3
+        unfolding look
+        look-over k = rw (eq-eqb (length page) 4096 size, sound, runs, k)
 
-    pub look-halted : q .halted ≡ true → look table window q page ≡ stop 2
-    unfolding look
-    look-halted h = rw (eq-eqb (length page) 4096 size, h)
+        module _ (fits : overflow (q .consumed) (q .replied) page ≡ false) where
+          pub look-empty : posted page (q .consumed) ≡ 0 → look table window q page l ≡ stop 4
+          unfolding look
+          look-empty k = rw (eq-eqb (length page) 4096 size, sound, runs, fits, k)
 
-    pub look-empty : q .halted ≡ false → posted page (q .consumed) ≡ 0 → look table window q page ≡ stop 4
-    unfolding look
-    look-empty h k = rw (eq-eqb (length page) 4096 size, h, k)
+          pub look-front : (posted page (q .consumed) ≡ 0 → ⊥) → look table window q page l ≡ lookFront table window (q .consumed) page
+          unfolding look
+          look-front n = rw (eq-eqb (length page) 4096 size, sound, runs, fits, ne-eqb (posted page (q .consumed)) 0 n)
 
-    -- slots l are posted
-    pub look-some : q .halted ≡ false → (l : List Slot) → waitingSlots page (q .consumed) ≡ l → posted page (q .consumed) ≡ length l → 0 < length l → length l ≤ 256
-        → look table window q page ≡ onCut (divide l) (λ d e. ready e (take (d + e) l) (judge table window e (take (d + e) l))) (stop 6) (stop 5)
-    unfolding look
-    look-some h l w k some few = rw (eq-eqb (length page) 4096 size, h, le-ltb 256 (posted page (q .consumed)) (omega arith), ne-eqb (posted page (q .consumed)) 0 (omega arith), w)
+          pub take-some : (frame : List ℕ) → (posted page (q .consumed) ≡ 0 → ⊥) → transmitTake table window q page frame l ≡ takeFront table window q page frame l
+          unfolding takeFront
+          take-some frame n = take-of frame (lookFront table window (q .consumed) page) (look-front n)
+
+          -- slots p are posted
+          pub look-some : (p : List Slot) → waitingSlots page (q .consumed) ≡ p → posted page (q .consumed) ≡ length p → 0 < length p
+              → look table window q page l ≡ onCut (divide p) (λ d e. ready e (take (d + e) p) (judge table window e (take (d + e) p))) (stop 6) (stop 5)
+          look-some p w k some = look-front (λ z. omega arith) ∙ rw w
+
+-- a queue that is not halted goes on from its counters
+pub running : (q : Queue) → q .halted ≡ false → q ≡ goOn (q .consumed) (q .replied)
+running q h = λ i. record { consumed = q .consumed; replied = q .replied; halted = h i }
+
+-- overflow, by the slots that are posted and not replied to
+module _ (page : List ℕ) (consumed replied : ℕ) where
+  pub over-many : 256 < posted page replied → overflow consumed replied page ≡ true
+  unfolding overflow posted
+  over-many h = rw (lt-ltb 256 (wsub (reqProd page) replied) h)
+
+  pub over-few : posted page replied ≤ 256 → overflow consumed replied page ≡ ltb (posted page replied) (wsub consumed replied)
+  unfolding overflow posted between
+  over-few h = rw (le-ltb 256 (wsub (reqProd page) replied) h)
+
+or-false : (a b : Bool) → a || b ≡ false → (a ≡ false) × (b ≡ false)
+or-false true b h = no-confusion cc
+or-false false b h = (refl, h)
+
+-- no overflow: at most 256 slots are posted
+pub few-posted : (page : List ℕ) (consumed replied : ℕ) → overflow consumed replied page ≡ false → posted page consumed ≤ 256
+unfolding overflow posted between
+few-posted page consumed replied h =
+    let sent : ℕ = wsub (reqProd page) replied in
+    let (a, b) = or-false (ltb 256 sent) (ltb sent (wsub consumed replied)) h in
+    omega (arith, posted-left (reqProd page) consumed replied (ltb-false sent (wsub consumed replied) b), ltb-false 256 sent a)
 
 pub waiting-slots : (page : List ℕ) (c n : ℕ) → n ≡ posted page c → waitingSlots page c ≡ transmitSlots page c n
 unfolding waitingSlots
 waiting-slots page c n h = rw h
 
--- slots l are posted: by their cut
-module _ (table window : List ℕ) (q : Queue) (page frame : List ℕ) (l : List Slot) (slots : waitingSlots page (q .consumed) ≡ l) where
-  pub front-stops : divide l ≡ beginning → takeFront table window q page frame ≡ refusal 6 q page frame
+-- slots p are posted: by their cut
+module _ (table window : List ℕ) (q : Queue) (page frame : List ℕ) (l : List Held) (p : List Slot) (slots : waitingSlots page (q .consumed) ≡ p) where
+  pub front-stops : divide p ≡ beginning → takeFront table window q page frame l ≡ refusal 6 q page frame l
   unfolding takeFront
   front-stops h = rw (slots, h)
 
-  pub front-wrong : divide l ≡ misshapen → takeFront table window q page frame ≡ refusal 5 q page frame
+  pub front-wrong : divide p ≡ misshapen → takeFront table window q page frame l ≡ refusal 5 q page frame l
   unfolding takeFront
   front-wrong h = rw (slots, h)
 
-  pub front-packet : (d e : ℕ) → divide l ≡ whole d e → takeFront table window q page frame ≡ takePacket table window q page frame e (take (d + e) l) (judge table window e (take (d + e) l))
+  pub front-packet : (d e : ℕ) → divide p ≡ whole d e
+      → takeFront table window q page frame l ≡ takePacket table window q page frame l e (take (d + e) p) (judge table window e (take (d + e) p))
   unfolding takeFront
   front-packet d e h = rw (slots, h)
 
 -- a halted queue stays as it is
-pub halted-stays : (table window : List ℕ) (q : Queue) (page frame : List ℕ) → q .halted ≡ true → transmitTake table window q page frame .queue .halted ≡ true
+pub halted-stays : (table window : List ℕ) (q : Queue) (page frame : List ℕ) (l : List Held) → q .halted ≡ true
+    → transmitTake table window q page frame l .queue .halted ≡ true
 unfolding transmitTake look
-halted-stays table window q page frame h = go (eqb (length page) 4096) refl
+halted-stays table window q page frame l h = go (eqb (length page) 4096) (valid (q .consumed) (q .replied) l) refl refl
   where
-    go : (b : Bool) → eqb (length page) 4096 ≡ b → transmitTake table window q page frame .queue .halted ≡ true
-    go true e = rw (e, h)
-    go false e = rw (e, h)
+    go : (b v : Bool) → eqb (length page) 4096 ≡ b → valid (q .consumed) (q .replied) l ≡ v → transmitTake table window q page frame l .queue .halted ≡ true
+    go true true e k = rw (e, k, h)
+    go true false e k = rw (e, k, h)
+    go false v e k = rw (e, h)

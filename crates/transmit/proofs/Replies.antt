@@ -3,27 +3,26 @@
 use mathlib.Core.Path.{_≡_, refl, sym, ap, _∙_}
 use mathlib.Core.Logic.{⊎-elim}
 use mathlib.Core.List.{List, [], _∷_, _++_, map, map-append}
-use mathlib.Core.Bool.{Bool, not, cond, _&&_}
-use Prim.Native.Nat.{ℕ, zero, suc, _+_, _-_, _%_, _≤_, _<_}
-use native.Mathlib.Nat.{add-assoc}
+use Prim.Native.Nat.{ℕ, zero, suc, _+_, _-_, _*_, _/_, _%_, _≤_, _<_}
+use native.Mathlib.Nat.{add-assoc, mul-add-mod-self-left}
 use native.Mathlib.Omega.{arith}
 use native.Mathlib.Numerals.{add-one}
 use lib.ListN.{length, take, drop, getD, length-take, length-drop, length-map, List·getD-append}
-use lib.Dec.{eqb, leb}
 use borrow.Author.Tests.{ne-eqb, le-leb, lt-leb}
 use lib.Seq.{take-at, drop-at, take-all, getD-drop, getD-append-add}
 use Rattle.words.proofs.Word.{lt-or-ge}
 use Rattle.words.proofs.Lists.{map-at}
-use Rattle.words.specs.Word.{splice}
+use Rattle.words.specs.Word.{u16Bytes, splice}
 use Rattle.ring.specs.Ring.{wrap, wadd, slotPlace, withSlots}
-use Rattle.ring.proofs.Ring.{slots-length, slots-at, slots-same, slots-split, slots-snoc, short-map, replies-length, replies-slot, replies-append}
-use Rattle.ring.proofs.Replied.{reply-next, reply-stands}
-use Rattle.netif.specs.Slot.{Slot, transmitSlot, transmitSlots}
-use Rattle.grammar.specs.Packet.{extrasOf, laterOf}
+use Rattle.ring.proofs.Ring.{slots-length, slots-at, slots-same, slots-split, slots-snoc, short-map, replies-length, replies-here, replies-slot, replies-append}
+use Rattle.ring.proofs.Replied.{reply-next}
+use Rattle.netif.specs.Slot.{Slot, slotWidth, slotCount, ident, transmitReply, transmitSlot, transmitSlots}
+use Rattle.grammar.specs.Packet.{firstOf, extrasOf, laterOf}
 use Rattle.packet.specs.Judge.{dataReply, extraReply, repliesOf}
 use Rattle.transmit.specs.Take.{repliesTo}
+use Rattle.transmit.specs.Replied.{replyAt}
 use Rattle.transmit.specs.Stages.{repliedBy}
-use Rattle.transmit.proofs.Cases.{repliedPage, data-short, extra-short, replies-short, replies-count}
+use Rattle.transmit.proofs.Cases.{data-short, extra-short, replies-short, replies-count}
 
 -- ---- a run of replies, each made by f of its slot
 
@@ -119,14 +118,6 @@ module _ (page : List ℕ) (size : length page ≡ 4096) (c e k status : ℕ) (f
 
 -- ---- the page afterwards, slot by slot
 
--- whether place i of a packet with e extras is an extra's
-abbrev pub extraPlace : ℕ → ℕ → Bool
-extraPlace e i = not (eqb i 0) && leb i e
-
--- the reply to the slot s at place i
-abbrev pub replyAt : (e i status : ℕ) → Slot → List ℕ
-replyAt e i status s = cond (extraPlace e i) (extraReply s) (dataReply status s)
-
 replies-at : (e : ℕ) (p : List Slot) (status i : ℕ) → suc e ≤ length p → i < length p → getD (repliesOf e p status) i [] ≡ replyAt e i status (getD p i [])
 unfolding repliesOf extraReply
 replies-at e p status zero h k = refl
@@ -156,13 +147,29 @@ replies-at e p status (suc j) h k = ⊎-elim extra later (lt-or-ge j e)
         ∙ map-at (dataReply status) (laterOf e p) (j - e) [] [] (simp length-drop (omega arith))
         ∙ ap (dataReply status) (getD-drop (suc e) p (j - e) [] ∙ ap (λ (n : ℕ). getD p n []) y))
 
+-- a reply carries the low 16 bits of a status
+low-bytes : (x : ℕ) → u16Bytes (x % 65536) ≡ u16Bytes x
+unfolding u16Bytes
+low-bytes x =
+    let low : x % 65536 % 256 ≡ x % 256 = omega arith in
+    let split : x / 256 ≡ 256 * (x / 65536) + x % 65536 / 256 = omega arith in
+    let high : x % 65536 / 256 % 256 ≡ x / 256 % 256 = sym (ap (λ (y : ℕ). y % 256) split ∙ mul-add-mod-self-left 256 (x / 65536) (x % 65536 / 256)) in
+    λ i. low i ∷ high i ∷ []
+
+pub low-status : (page : List ℕ) (c slots e status : ℕ) → repliesTo page c slots e status ≡ repliesTo page c slots e (status % 65536)
+unfolding repliesTo repliesOf dataReply transmitReply
+low-status page c slots e status =
+    ap (λ (b : List ℕ). withSlots slotWidth slotCount page c
+    ((u16Bytes (ident (firstOf (transmitSlots page c slots))) ++ b)
+    ∷ map extraReply (extrasOf e (transmitSlots page c slots)) ++ map (λ s. u16Bytes (ident s) ++ b) (laterOf e (transmitSlots page c slots))))
+    (sym (low-bytes status))
+
 -- each slot replied to has its id, or 0, and the status, or null, in its first four bytes, and its others stay
 pub replied-at : (page : List ℕ) → length page ≡ 4096 → (c slots e status : ℕ) → e < slots → slots ≤ 256 → (i : ℕ) → i < slots
-    → transmitSlot (repliedPage page c slots e status) (c + i) ≡ splice (transmitSlot page (c + i)) 0 (replyAt e i status (transmitSlot page (c + i)))
+    → transmitSlot (repliesTo page c slots e status) (c + i) ≡ splice (transmitSlot page (c + i)) 0 (replyAt e i status (transmitSlot page (c + i)))
 unfolding repliesTo
 replied-at page size c slots e status some few i h =
     let n : length (transmitSlots page c slots) ≡ slots = slots-length 12 256 page slots c in
     let m : length (repliesOf e (transmitSlots page c slots) status) ≡ slots = replies-count e (transmitSlots page c slots) status (omega arith) ∙ n in
-    reply-stands 12 256 (omega arith) page (omega arith) c (repliesOf e (transmitSlots page c slots) status) (replies-short e (transmitSlots page c slots) status) (omega arith)
-    (wadd c slots) i (omega arith) _
-    (replies-at e (transmitSlots page c slots) status i (omega arith) (omega arith) ∙ ap (replyAt e i status) (slots-at 12 256 page slots c i h))
+    replies-here 12 256 (omega arith) (repliesOf e (transmitSlots page c slots) status) page c (omega arith) (replies-short e (transmitSlots page c slots) status) (omega arith) i (omega arith)
+    ∙ ap (splice (transmitSlot page (c + i)) 0) (replies-at e (transmitSlots page c slots) status i (omega arith) (omega arith) ∙ ap (replyAt e i status) (slots-at 12 256 page slots c i h))

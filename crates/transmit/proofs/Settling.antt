@@ -1,37 +1,50 @@
 -- A whole packet at the counter, from what the divider read of it to what the call leaves: it stands on the page with its outline, a good
 -- one's plan lies in the window and is its frame.
-use mathlib.Core.Path.{_≡_, refl, sym, ap, _∙_}
+use mathlib.Core.Path.{_≡_, refl, sym, ap, subst, _∙_}
 use mathlib.Core.List.{List, [], _∷_, _++_, map}
-use mathlib.Core.Bool.{Bool}
+use mathlib.Core.Bool.{Bool, true, false}
 use Prim.Native.Nat.{ℕ, zero, suc, _+_, _-_, _*_, _≤_, _<_}
 use native.Mathlib.Omega.{arith}
 use lib.ListN.{length, take, getD, length-take, length-append, length-map}
 use lib.Seq.{getD-take}
-use borrow.Author.Tests.{lt-ltb, le-ltb}
+use lib.Dec.{eqb}
+use borrow.Author.Tests.{eq-eqb, ne-eqb, eqb-true, eqb-false, lt-ltb, le-ltb}
 use Rattle.words.specs.Word.{splice, bit}
 use Rattle.words.proofs.Lists.{map-at}
 use Rattle.words.proofs.Word.{no-confusion}
+use Rattle.ring.specs.Ring.{wrap, wadd, notify, withProducer, ProducerMoved}
+use Rattle.ring.specs.declared.Side.the-variants.{Replies}
 use Rattle.ring.proofs.Ring.{slots-length, slots-take}
+use Rattle.ring.proofs.Facts.{notify-none}
+use Rattle.ring.proofs.Replied.{notify-replied}
+use Rattle.ring.proofs.Counters.{not-moved, on-counter, wadd-zero}
 use Rattle.grant.proofs.Grant.{fit-page, range-page}
-use Rattle.netif.specs.Slot.{Slot, gref, offset, size, okay, error, transmitSlots}
+use Rattle.netif.specs.Slot.{Slot, gref, offset, size, error, transmitSlots}
 use Rattle.grammar.specs.Packet.{firstOf, laterOf, sizes}
 use Rattle.grammar.specs.Divide.{Cut, whole, beginning, misshapen, divide, onCut}
 use Rattle.grammar.specs.Stages.{outlineOf, frontOf}
 use Rattle.grammar.specs.declared.Outline.{Outline}
 use Rattle.grammar.specs.declared.Front.{Front}
 use Rattle.grammar.specs.declared.Front.the-variants as front
-use Rattle.answer.specs.Report.{spoiledReport, doneReport}
-use Rattle.answer.specs.Effect.{refusal, consume, Gives}
+use Rattle.answer.specs.Report.{plain, spoiledReport}
 use Rattle.answer.specs.declared.Summary.{Summary}
-use Rattle.answer.specs.declared.Outcome.{Outcome}
-use Rattle.answer.specs.declared.Queue.{Queue}
 use Rattle.answer.specs.declared.Verdict.the-variants.{Good, Bad}
 use Rattle.grammar.proofs.Within.{within-datas}
 use Rattle.grammar.proofs.Grammar.{packet-length, divide-whole}
-use Rattle.packet.specs.Judge.{totalOf, ownPart, parts, judgeSlot, judgeLater, judge, partOf, laterParts, frameOf}
-use Rattle.transmit.specs.Take.{summaryOf, repliesTo, spoiled, handedOver, takePacket}
+use Rattle.packet.specs.Judge.{totalOf, ownPart, parts, judgeSlot, judgeLater, judge, partOf, laterParts, frameOf, repliesOf}
+use Rattle.held.specs.declared.Held.{Held}
+use Rattle.held.specs.Records.{full, added, failed}
+use Rattle.held.specs.Valid.{between}
+use Rattle.held.proofs.Spoiling.{spoiled-alone, spoiled-behind}
+use Rattle.transmit.specs.declared.Queue.{Queue}
+use Rattle.transmit.specs.declared.Answer.{Answer}
+use Rattle.transmit.specs.declared.Answer.the-variants.{Done, Spoiled}
+use Rattle.transmit.specs.Take.{goOn, refusal, repliesTo, summaryOf, spoiled, handedOver, takePacket, takeFront}
+use Rattle.transmit.specs.Stages.{reportOf, takes, queueAfter, Gives, Lent, RepliedNow}
 use Rattle.packet.specs.Stages.{joined, InWindow, datasOf, slotPage, packetAt, Ready, HoldsParts}
 use Rattle.packet.proofs.Judge.{orElse-good, slot-granted, good-parts}
+use Rattle.transmit.proofs.Cases.{running, replies-short}
+use Rattle.transmit.proofs.Replies.{low-status}
 use Rattle.packet.proofs.Plans.{total-of, blank-of, validated-of, gso-size-of, gso-type-of}
 
 -- ---- what stands at the front
@@ -159,22 +172,99 @@ module _ (table window : List ℕ) (e : ℕ) (p : List Slot) (pages offsets size
   unfolding InWindow HoldsParts
   plan-inside i k = rw (at pages (map (slotPage table) (datasOf e p)) ps i k, at offsets (map offset (datasOf e p)) os i k, at sizes (parts e p) ss i k) (inside i (omega arith))
 
--- ---- what a call leaves of a packet that it takes
+-- ---- what a take leaves
 
-module _ (page : List ℕ) (c : ℕ) (o : Outline) (e : ℕ) (p : List Slot) (replied after : List ℕ) (r : Outcome) where
-  pub gives-spoiled : (cause place : ℕ) → o .slots ≡ length p → replied ≡ repliesTo page c (o .slots) e error
-      → ((buffer : List ℕ) → Gives (consume (spoiledReport cause place (o .slots)) c (o .slots) replied buffer) r after buffer)
-      → (frame : List ℕ) → Gives (spoiled c page frame e p cause place) r after frame
+-- an answer that takes nothing
+pub gives-refusal : (n : ℕ) (q : Queue) (page frame : List ℕ) (l : List Held) (a : Answer) → reportOf (q .consumed) a ≡ plain n
+    → queueAfter q a ≡ refusal n q page frame l .queue → takes a ≡ false
+    → Gives (refusal n q page frame l) q l a (refusal n q page frame l .page) frame
+gives-refusal n q page frame l a reports leaves none =
+    record { report = reports; queue = leaves; page = refl; frame = refl; list = rw none; room = λ h. no-confusion cc }
+
+-- a queue that is not halted goes on from its counters
+pub gives-front : (table window : List ℕ) (q : Queue) (page frame : List ℕ) (l : List Held) (a : Answer) (ring written : List ℕ) → q .halted ≡ false
+    → Gives (takeFront table window (goOn (q .consumed) (q .replied)) page frame l) (goOn (q .consumed) (q .replied)) l a ring written
+    → Gives (takeFront table window q page frame l) q l a ring written
+gives-front table window q page frame l a ring written runs g =
+    subst (λ (x : Queue). Gives (takeFront table window x page frame l) x l a ring written) (sym (running q runs)) g
+
+-- the replies to a spoiled packet were written, and rsp_prod was moved behind them
+pub replied-now : (page : List ℕ) → length page ≡ 4096 → (c r n e : ℕ) → c ≡ r → (written : List ℕ) (new : ℕ) (after : List ℕ) (notified : Bool)
+    → written ≡ repliesTo page c n e error → new ≡ wadd c n → ProducerMoved Replies written c new after notified → RepliedNow page c r n e after notified
+unfolding repliesTo
+replied-now page size c r n e same written new after notified w to moved =
+    let f : written ≡ repliesTo page c n e failed = w ∙ sym (low-status page c n e failed) in
+    record {
+      pages = rw (eq-eqb c r same) (moved .page ∙ (λ i. withProducer Replies (f i) (to i)));
+      notifies = rw (eq-eqb c r same) (moved .notifies
+          ∙ (λ i. notify Replies (f i) c (to i))
+          ∙ notify-replied 12 256 (omega arith) page (omega arith) c (repliesOf e (transmitSlots page c n) failed) (replies-short e (transmitSlots page c n) failed) Replies c (wadd c n));
+    }
+
+-- a packet is held before it, and nothing was written
+pub replied-later : (page : List ℕ) (c r n e : ℕ) → (c ≡ r → ⊥) → RepliedNow page c r n e page false
+replied-later page c r n e other = record { pages = rw (ne-eqb c r other); notifies = rw (ne-eqb c r other) }
+
+-- no slot is between two counters exactly if they are the same
+none-between : (c : ℕ) → between c c ≡ 0
+unfolding between
+none-between c = not-moved c
+
+between-same : (c r : ℕ) → c < wrap → r < wrap → between c r ≡ 0 → c ≡ r
+unfolding between
+between-same c r small start h = on-counter c r small ∙ ap (wadd r) h ∙ wadd-zero r start
+
+-- a spoiled packet: nothing is held and it leaves at once, or it waits behind the oldest
+module _ (page frame : List ℕ) (c r : ℕ) (l : List Held) (n e : ℕ) (p : List Slot) (cause place : ℕ) (after : List ℕ) (notified : Bool)
+    (small : c < wrap) (start : r < wrap) (slots : n ≡ length p) (some : 0 < n) (few : n < wrap) (lent : Lent c r false l)
+    (replied : RepliedNow page c r n e after notified) where
+  abbrev q : Queue
+  q = goOn c r
+
+  alone : eqb c r ≡ true → Gives (spoiled q page frame l e p cause place) q l (Spoiled cause place n e notified) after frame
+  unfolding spoiled added
+  alone h =
+      let same : c ≡ r = eqb-true c r h in
+      let none : between c r ≡ 0 = rw same (none-between r) in
+      let s = spoiled-alone c r l (lent .sound) (lent .fullness) small n e failed some none start few in
+      let told : notified ≡ notify Replies page r (wadd r n) = replied .notifies ∙ (rw (h, same)) in
+      let left : after ≡ withProducer Replies (repliesTo page r n e failed) (wadd r n) = replied .pages ∙ (rw (h, same)) in
+      rw (← slots, s) (record {
+        report = ap (spoiledReport cause place n) told;
+        queue = rw (h, same);
+        page = left;
+        frame = refl;
+        list = rw h;
+        room = λ k. lent;
+      })
+
+  behind : eqb c r ≡ false → Gives (spoiled q page frame l e p cause place) q l (Spoiled cause place n e notified) after frame
   unfolding spoiled
-  gives-spoiled cause place slots m h frame = rw (← slots, ← m) (h frame)
+  behind h =
+      let s = spoiled-behind c r l (lent .sound) (lent .fullness) small n e failed some (λ z. eqb-false c r h (between-same c r small start z)) in
+      let told : notified ≡ notify Replies page r r = replied .notifies ∙ (rw (h, notify-none Replies page r)) in
+      let left : after ≡ page = replied .pages ∙ (rw h) in
+      rw (← slots, s) (record {
+        report = ap (spoiledReport cause place n) told;
+        queue = rw h;
+        page = left;
+        frame = refl;
+        list = rw h;
+        room = λ k. lent;
+      })
 
-  pub gives-done : (s : Summary) → s ≡ summaryOf e p → o .slots ≡ length p → replied ≡ repliesTo page c (o .slots) e okay
-      → ((buffer : List ℕ) → Gives (consume (doneReport s) c (s .slots) replied buffer) r after buffer)
-      → (table window frame : List ℕ) → Gives (handedOver table window c page frame e p) r after (splice frame 0 (frameOf table window e p))
-  unfolding handedOver summaryOf
-  gives-done s is slots m h table window frame =
-      let n : s .slots ≡ length p = ap (λ (x : Summary). x .slots) is in
-      rw (← (m ∙ ap (λ (k : ℕ). repliesTo page c k e okay) slots), ← is, ← n) (h (splice frame 0 (frameOf table window e p)))
+  pub gives-spoiled : Gives (spoiled q page frame l e p cause place) q l (Spoiled cause place n e notified) after frame
+  gives-spoiled = go (eqb c r) refl
+    where
+      go : (b : Bool) → eqb c r ≡ b → Gives (spoiled q page frame l e p cause place) q l (Spoiled cause place n e notified) after frame
+      go true h = alone h
+      go false h = behind h
+
+-- a good packet
+pub gives-done : (table window page frame : List ℕ) (c r : ℕ) (l : List Held) (e : ℕ) (p : List Slot) (a : Answer) → a ≡ Done (summaryOf e p) e → Lent c r false l
+    → Gives (handedOver table window (goOn c r) page frame l e p) (goOn c r) l a page (splice frame 0 (frameOf table window e p))
+unfolding handedOver summaryOf
+gives-done table window page frame c r l e p a is room = rw is (record { report = refl; queue = refl; page = refl; frame = refl; list = refl; room = λ k. room })
 
 -- what is reported of a packet, by its outline
 pub summary-is : (o : Outline) (e : ℕ) (p : List Slot) → o ≡ outlineOf e p → (b v : Bool) → b ≡ bit 0 (o .head .flags) → v ≡ bit 1 (o .head .flags)
@@ -191,14 +281,20 @@ summary-is o e p is b v bs vs = λ i. record {
 
 -- ---- by the verdict
 
-module _ (table window : List ℕ) (q : Queue) (page frame : List ℕ) (e : ℕ) (p : List Slot) where
-  pub packet-spoiled : (cause place : ℕ) → judge table window e p ≡ Bad cause place
-      → takePacket table window q page frame e p (judge table window e p) ≡ spoiled (q .consumed) page frame e p cause place
+module _ (table window : List ℕ) (q : Queue) (page frame : List ℕ) (l : List Held) (e : ℕ) (p : List Slot) where
+  pub packet-full : (cause place : ℕ) → full l ≡ true → takePacket table window q page frame l e p (Bad cause place) ≡ refusal 14 q page frame l
+  packet-full cause place h = rw h
+
+  pub packet-spoiled : (cause place : ℕ) → full l ≡ false → takePacket table window q page frame l e p (Bad cause place) ≡ spoiled q page frame l e p cause place
   packet-spoiled cause place h = rw h
 
   module _ (good : judge table window e p ≡ Good) where
-    pub packet-no-room : length frame < totalOf p → takePacket table window q page frame e p (judge table window e p) ≡ refusal 8 q page frame
+    pub packet-no-room : length frame < totalOf p → takePacket table window q page frame l e p (judge table window e p) ≡ refusal 8 q page frame l
     packet-no-room h = rw (good, lt-ltb (length frame) (totalOf p) h)
 
-    pub packet-done : totalOf p ≤ length frame → takePacket table window q page frame e p (judge table window e p) ≡ handedOver table window (q .consumed) page frame e p
-    packet-done h = rw (good, le-ltb (length frame) (totalOf p) h)
+    module _ (room : totalOf p ≤ length frame) where
+      pub packet-no-record : full l ≡ true → takePacket table window q page frame l e p (judge table window e p) ≡ refusal 14 q page frame l
+      packet-no-record h = rw (good, le-ltb (length frame) (totalOf p) room, h)
+
+      pub packet-done : full l ≡ false → takePacket table window q page frame l e p (judge table window e p) ≡ handedOver table window q page frame l e p
+      packet-done h = rw (good, le-ltb (length frame) (totalOf p) room, h)

@@ -1,4 +1,8 @@
 -- The definitions that the promises cite, in reading order.
 pub mod Take
-pub mod Sequence
+pub mod Finish
+pub mod Words
+pub mod Replied
+pub mod Keeps
+pub mod Unchanged
 pub mod Stages

@@ -1,9 +1,9 @@
 -- The laws of bytes and little-endian numbers in lists.
 use mathlib.Core.Path.{_≡_, refl, sym, ap, _∙_}
-use mathlib.Core.Bool.{Bool, true, false, _&&_, _||_}
+use mathlib.Core.Bool.{Bool, true, false, not, _&&_, _||_}
 use lib.Dec.{ltb}
 use borrow.Author.Tests.{ltb-true}
-use mathlib.Core.Logic.{_⊎_, inl, inr, ⊎-elim}
+use mathlib.Core.Logic.{_≢_, _⊎_, inl, inr, ⊎-elim}
 use mathlib.Core.List.{List, [], _∷_, _++_, append-nil, append-assoc}
 use Prim.Native.Nat.{ℕ, zero, suc, _+_, _-_, _*_, _/_, _%_, _≤_, _<_}
 use native.Mathlib.Nat.{div-div-eq-div-mul, zero-add, add-zero, add-assoc}
@@ -19,6 +19,12 @@ lt-or-ge a zero = inr (omega arith)
 lt-or-ge zero (suc b) = inl (omega arith)
 lt-or-ge (suc a) (suc b) = ⊎-elim (λ h. inl (omega arith)) (λ h. inr (omega arith)) (lt-or-ge a b)
 
+pub same-or-not : (i j : ℕ) → (i ≡ j) ⊎ (i ≢ j)
+same-or-not zero zero = inl refl
+same-or-not zero (suc j) = inr (λ h. omega arith)
+same-or-not (suc i) zero = inr (λ h. omega arith)
+same-or-not (suc i) (suc j) = ⊎-elim (λ h. inl (ap suc h)) (λ h. inr (λ k. h (omega arith))) (same-or-not i j)
+
 -- anything follows where 0 is 1; `cc` shows it wherever two different constructors are said to be equal
 pub no-confusion : {A : Type 0} → _≡_ {A = ℕ} 0 1 → A
 no-confusion h = absurd (omega arith)
@@ -31,6 +37,26 @@ and-both false b h = no-confusion cc
 pub or-none : (a b : Bool) → a || b ≡ false → (a ≡ false) × (b ≡ false)
 or-none true b h = no-confusion cc
 or-none false b h = (refl, h)
+
+pub true-and : (a b : Bool) → a ≡ true → b ≡ true → a && b ≡ true
+true-and a b h k = rw (h, k)
+
+-- a test passes or not, and not both
+pub either : (b : Bool) → (b ≡ true) ⊎ (b ≡ false)
+either true = inl refl
+either false = inr refl
+
+pub clash : {b : Bool} → b ≡ true → b ≡ false → ⊥
+clash h k = no-confusion cc
+
+-- of a test that is asked only where another passes
+pub implied : (a b : Bool) → (a ≡ true → b ≡ true) → not a || b ≡ true
+implied true b f = f refl
+implied false b f = refl
+
+pub implies : (a b : Bool) → not a || b ≡ true → a ≡ true → b ≡ true
+implies true b h k = h
+implies false b h k = no-confusion cc
 
 -- ---- splice
 

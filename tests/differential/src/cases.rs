@@ -4,17 +4,17 @@ use crate::case::{difference, Answer, Case, Second};
 use crate::guarded::Placement;
 use crate::library::Library;
 use crate::random::Random;
-use crate::{receive, transmit};
+use crate::{finishing, receive, transmit};
 
 pub const PLACEMENTS: [Placement; 3] = [Placement::End, Placement::Begin, Placement::Odd];
 
-/// Case `number` of a run with `seed`: three transmit cases to two receive cases.
+/// Case `number` of a run with `seed`: three takes to two puts and two finishes.
 pub fn case(seed: u64, number: u64) -> Case {
     let random = &Random::new(seed, number);
-    if random.below(5) < 3 {
-        transmit::case(random)
-    } else {
-        receive::case(random)
+    match random.below(7) {
+        0..=2 => transmit::case(random),
+        3 | 4 => receive::case(random),
+        _ => finishing::case(random),
     }
 }
 

@@ -1,8 +1,8 @@
 //! Counts of the answers, causes and boundaries that the cases have reached, and the least that each must have.
 
-use crate::case::{Answer, Case};
+use crate::case::{Answer, Call, Case};
 use crate::facts::Facts;
-use reference::calls::Ring;
+use crate::held_coverage::{FINISH, LIST, TAKE_LIST};
 use reference::grants::{fit_grant, Access, Range, WORD_BYTES};
 use reference::report::*;
 use reference::slots::{data, extra};
@@ -11,26 +11,40 @@ use std::collections::HashSet;
 use std::fmt;
 
 /// The answers and causes of each call. Cause 2 is reserved.
-const TRANSMIT_ANSWERS: &[u32] = &[0, 1, 2, 3, 4, 5, 6, 7, 8];
-const TRANSMIT_CAUSES: &[u32] = &[1, 3, 4, 5, 6];
-const RECEIVE_ANSWERS: &[u32] = &[0, 1, 2, 3, 7, 9, 10];
-const RECEIVE_CAUSES: &[u32] = &[4];
+const TAKE_ANSWERS: &[u32] = &[0, 1, 2, 3, 4, 5, 6, 7, 8, 14, 17];
+const TAKE_CAUSES: &[u32] = &[1, 3, 4, 5, 6];
+const FINISH_ANSWERS: &[u32] = &[0, 1, 15, 17];
+const PUT_ANSWERS: &[u32] = &[0, 1, 2, 3, 7, 9, 10];
+const PUT_CAUSES: &[u32] = &[4];
 
 /// Each answer and cause is reached once in so many cases at least, and each boundary.
-const CASES_PER_ANSWER: u64 = 100;
-const CASES_PER_BOUNDARY: u64 = 2000;
+const CASES_PER_ANSWER: u64 = 140;
+const CASES_PER_BOUNDARY: u64 = 2800;
 
 /// How often each answer was given, by number.
 pub type Answers = [u64; NAMES.len()];
 
 /// A boundary's name, and whether a case is at it.
-type Boundary = (&'static str, fn(&Facts) -> bool);
+pub type Boundary = (&'static str, fn(&Facts) -> bool);
 
-/// Boundaries of both calls.
-const COMMON: &[Boundary] = &[
+/// Boundaries of all calls: the ring page and replies.
+const RING: &[Boundary] = &[
     ("ring page of 0 bytes", |f| f.before.page.is_empty()),
     ("ring page of 4095 bytes", |f| f.before.page.len() == 4095),
     ("ring page of 4097 bytes", |f| f.before.page.len() == 4097),
+    ("replies across the 32-bit wrap", |f| f.replied().checked_add(f.replies()).is_none()),
+    ("replies across the ring's end", |f| f.replied() % 256 + f.replies() > 256),
+    ("replies where rsp_prod is not the counter", |f| {
+        f.replies() > 0 && number(&f.before.page, 8, 4) != f.replied().into()
+    }),
+    ("rsp_event at the old counter", |f| f.event_at(0)),
+    ("rsp_event one past the old counter", |f| f.event_at(1)),
+    ("rsp_event at the new counter", |f| f.event_at(f.replies())),
+    ("rsp_event one past the new counter", |f| f.event_at(f.replies() + 1)),
+];
+
+/// Boundaries of take and put.
+const COMMON: &[Boundary] = &[
     ("bad page of a halted queue", |f| f.answer() == BAD_PAGE && f.before.halted != 0),
     ("mark neither 0 nor 1", |f| f.answer() == HALTED_ALREADY && f.before.halted > 1),
     ("posted 0", |f| f.posted == Some(0)),
@@ -42,15 +56,8 @@ const COMMON: &[Boundary] = &[
     ("posted 256", |f| f.posted == Some(256)),
     ("posted 257", |f| f.posted == Some(257)),
     ("posted 2^31 or more", |f| f.posted >= Some(1 << 31)),
-    ("replies across the 32-bit wrap", |f| f.before.consumed.checked_add(f.slots()).is_none()),
-    ("replies across the ring's end", |f| f.before.consumed % 256 + f.slots() > 256),
-    ("replies where rsp_prod is not the counter", |f| {
-        f.slots() > 0 && number(&f.before.page, 8, 4) != f.before.consumed.into()
-    }),
-    ("rsp_event at the old counter", |f| f.event_at(0)),
-    ("rsp_event one past the old counter", |f| f.event_at(1)),
-    ("rsp_event at the new counter", |f| f.event_at(f.slots())),
-    ("rsp_event one past the new counter", |f| f.event_at(f.slots() + 1)),
+    ("slots consumed across the 32-bit wrap", |f| f.before.consumed.checked_add(f.slots()).is_none()),
+    ("slots consumed across the ring's end", |f| f.before.consumed % 256 + f.slots() > 256),
     ("grant table with a spare tail", |f| f.slots() > 0 && f.before.grants.len() % 8 != 0),
     ("window with a spare tail", |f| f.slots() > 0 && f.before.window.len() % 4096 != 0),
     ("done: last word of the table", |f| {
@@ -78,8 +85,8 @@ const COMMON: &[Boundary] = &[
     }),
 ];
 
-/// Boundaries of the transmit call.
-const TRANSMIT: &[Boundary] = &[
+/// Boundaries of a take's packet and frame.
+const TAKE: &[Boundary] = &[
     ("posted 22", |f| f.posted == Some(22)),
     ("done: 18 data slots, no extra", |f| f.packet_is(DONE, |p| p.slots == 18 && p.extras == 0)),
     ("done: 18 data slots, 1 extra", |f| f.packet_is(DONE, |p| p.slots == 19 && p.extras == 1)),
@@ -214,8 +221,8 @@ const TRANSMIT: &[Boundary] = &[
     }),
 ];
 
-/// Boundaries of the receive call.
-const RECEIVE: &[Boundary] = &[
+/// Boundaries of a put.
+const PUT: &[Boundary] = &[
     ("frame of 0 bytes", |f| f.answer() == BAD_LENGTH && f.before.frame.is_empty()),
     ("frame of 13 bytes", |f| f.answer() == BAD_LENGTH && f.before.frame.len() == 13),
     ("frame of 65536 bytes", |f| f.answer() == BAD_LENGTH && f.before.frame.len() == 65_536),
@@ -252,22 +259,31 @@ const RECEIVE: &[Boundary] = &[
 
 /// The counts of one call.
 struct Tally {
-    ring: Ring,
+    name: &'static str,
     answers: Answers,
     causes: [u64; 7],
+    /// The answers and causes that must come.
+    wanted_answers: &'static [u32],
+    wanted_causes: &'static [u32],
     boundaries: Vec<(Boundary, u64)>,
 }
 
 pub struct Coverage {
     cases: u64,
-    transmit: Tally,
-    receive: Tally,
+    take: Tally,
+    finish: Tally,
+    put: Tally,
 }
 
 impl Tally {
-    fn new(ring: Ring, own: &[Boundary]) -> Tally {
-        let boundaries = COMMON.iter().chain(own).map(|&boundary| (boundary, 0)).collect();
-        Tally { ring, answers: [0; NAMES.len()], causes: [0; 7], boundaries }
+    fn new(
+        name: &'static str,
+        wanted_answers: &'static [u32],
+        wanted_causes: &'static [u32],
+        boundaries: &[&[Boundary]],
+    ) -> Tally {
+        let boundaries = boundaries.iter().copied().flatten().map(|&boundary| (boundary, 0)).collect();
+        Tally { name, answers: [0; NAMES.len()], causes: [0; 7], wanted_answers, wanted_causes, boundaries }
     }
 
     fn count(&mut self, facts: &Facts) {
@@ -280,44 +296,46 @@ impl Tally {
 
     /// A line for each answer, cause and boundary: what it is, its count, and the least for so many cases.
     fn lines(&self, cases: u64) -> Vec<(String, u64, u64)> {
-        let (answers, causes) = match self.ring {
-            Ring::Transmit => (TRANSMIT_ANSWERS, TRANSMIT_CAUSES),
-            Ring::Receive => (RECEIVE_ANSWERS, RECEIVE_CAUSES),
-        };
         let least = cases / CASES_PER_ANSWER;
         let answer =
             |&a: &u32| (format!("answer {a} {}", NAMES[a as usize]), self.answers[a as usize], least);
         let cause = |&c: &u32| (format!("cause {c}"), self.causes[c as usize], least);
         let boundary =
             |&((name, _), count): &(Boundary, u64)| (name.to_string(), count, cases / CASES_PER_BOUNDARY);
-        let lines = answers.iter().map(answer).chain(causes.iter().map(cause));
+        let lines = self.wanted_answers.iter().map(answer).chain(self.wanted_causes.iter().map(cause));
         lines.chain(self.boundaries.iter().map(boundary)).collect()
     }
 }
 
 impl Coverage {
     pub fn new() -> Coverage {
-        let transmit = Tally::new(Ring::Transmit, TRANSMIT);
-        let receive = Tally::new(Ring::Receive, RECEIVE);
-        Coverage { cases: 0, transmit, receive }
+        let take = Tally::new("Takes", TAKE_ANSWERS, TAKE_CAUSES, &[RING, COMMON, TAKE, LIST, TAKE_LIST]);
+        let finish = Tally::new("Finishes", FINISH_ANSWERS, &[], &[RING, LIST, FINISH]);
+        let put = Tally::new("Puts", PUT_ANSWERS, PUT_CAUSES, &[RING, COMMON, PUT]);
+        Coverage { cases: 0, take, finish, put }
     }
 
     pub fn count(&mut self, case: &Case, answer: &Answer) {
         let facts = Facts::new(case, answer);
         self.cases += 1;
-        match case.ring {
-            Ring::Transmit => self.transmit.count(&facts),
-            Ring::Receive => self.receive.count(&facts),
+        match case.call {
+            Call::Take => self.take.count(&facts),
+            Call::Finish { .. } => self.finish.count(&facts),
+            Call::Put => self.put.count(&facts),
         }
+    }
+
+    fn tallies(&self) -> [&Tally; 3] {
+        [&self.take, &self.finish, &self.put]
     }
 
     /// The answers, causes and boundaries that were reached too seldom.
     pub fn shortfalls(&self) -> Vec<String> {
         let mut found = Vec::new();
-        for tally in [&self.transmit, &self.receive] {
+        for tally in self.tallies() {
             for (name, count, least) in tally.lines(self.cases) {
                 if count < least {
-                    found.push(format!("{:?}: {name}: {count} cases, at least {least} wanted", tally.ring));
+                    found.push(format!("{}: {name}: {count} cases, at least {least} wanted", tally.name));
                 }
             }
         }
@@ -333,8 +351,8 @@ impl Default for Coverage {
 
 impl fmt::Display for Coverage {
     fn fmt(&self, f: &mut fmt::Formatter) -> fmt::Result {
-        for tally in [&self.transmit, &self.receive] {
-            writeln!(f, "{:?} calls", tally.ring)?;
+        for tally in self.tallies() {
+            writeln!(f, "{}", tally.name)?;
             for (name, count, _) in tally.lines(self.cases) {
                 writeln!(f, "  {count:8} {name}")?;
             }

@@ -15,6 +15,7 @@ const STANDARD_ERROR: i32 = 2;
 #[derive(Clone, Copy)]
 pub enum Phase {
     Grammar,
+    Covers,
     Case,
     Sequence,
     Post,
@@ -23,8 +24,15 @@ pub enum Phase {
 }
 
 /// The phases' names, in their order.
-const PHASES: [&str; 6] =
-    [" in grammar run ", " in case ", " in sequence ", " in post ", " in list ", " in race "];
+const PHASES: [&str; 7] = [
+    " in grammar run ",
+    " in list of records ",
+    " in case ",
+    " in sequence ",
+    " in post ",
+    " in list ",
+    " in race ",
+];
 
 static SEED: AtomicU64 = AtomicU64::new(0);
 static PHASE: AtomicUsize = AtomicUsize::new(0);

@@ -1,9 +1,10 @@
 //! What a case is about and how it was answered, read off the case itself and not off its making.
 
-use crate::case::{Answer, Case, State};
+use crate::case::{Answer, Call, Case, State};
 use reference::calls::{Ring, Words};
 use reference::grammar::{begins_packet, front, Front};
 use reference::grants::{grant, Access, Grant, Range, WHOLE_PAGE, WORD_BYTES};
+use reference::held::{self, Held, TransmitQueue};
 use reference::report::{DONE, MISSHAPEN, SPOILED, WAITING};
 use reference::ring::{posted, slots, PAGE_BYTES, RING_SLOTS};
 use reference::slots::{data, extra, request, Data, Extra, Slot};
@@ -11,8 +12,13 @@ use reference::transmit::{later_sizes, pieces, read, Piece};
 use reference::words::number;
 
 pub struct Facts<'a> {
+    pub call: Call,
     pub before: &'a State,
+    pub after: &'a State,
     pub words: Words,
+    /// A transmit ring's counters and list before the call, and what is wrong with the list.
+    pub queue: TransmitQueue,
+    pub list_faults: Vec<held::Fault>,
     /// What the call wants of a grant.
     access: Access,
     /// Slots posted, where the ring page has 4,096 bytes.
@@ -50,22 +56,34 @@ pub struct Fault {
 }
 
 impl Facts<'_> {
-    pub fn new<'a>(case: &'a Case, answer: &Answer) -> Facts<'a> {
+    pub fn new<'a>(case: &'a Case, answer: &'a Answer) -> Facts<'a> {
         let before = &case.before;
         let page = &before.page;
         let consumed = before.consumed.into();
         let posted = (page.len() == PAGE_BYTES).then(|| posted(page, consumed));
         let words = answer.words;
-        let access = if case.ring == Ring::Transmit { Access::Read } else { Access::Write };
-        let (run, requests) = (Vec::new(), Vec::new());
-        let mut facts = Facts { before, words, access, posted, run, packet: None, fault: None, requests };
-        match (case.ring, posted) {
-            (Ring::Transmit, Some(posted @ 1..=RING_SLOTS)) => {
+        let queue = queue(before);
+        let mut facts = Facts {
+            call: case.call,
+            before,
+            after: &answer.after,
+            words,
+            list_faults: if case.call == Call::Put { Vec::new() } else { queue.faults() },
+            queue,
+            access: if case.call == Call::Put { Access::Write } else { Access::Read },
+            posted,
+            run: Vec::new(),
+            packet: None,
+            fault: None,
+            requests: Vec::new(),
+        };
+        match (case.call, posted) {
+            (Call::Take, Some(posted @ 1..=RING_SLOTS)) => {
                 facts.run = slots(page, consumed, posted);
                 facts.packet = packet(&facts.run);
                 facts.fault = (words[0] == MISSHAPEN).then(|| fault(&facts.run));
             }
-            (Ring::Receive, Some(_)) => {
+            (Call::Put, Some(_)) => {
                 let taken = slots(page, consumed, words[3].into());
                 facts.requests = taken.iter().map(|slot| request(slot).gref).collect();
             }
@@ -82,15 +100,31 @@ impl Facts<'_> {
         self.words[1]
     }
 
-    /// Slots consumed.
+    /// Slots consumed by a take or put, or replied to by a finish.
     pub fn slots(&self) -> u32 {
         self.words[3]
     }
 
-    /// Whether replies were given, and rsp_event was so far past the counter before them.
+    /// The counter of replies before the call. A receive ring's is that of slots consumed.
+    pub fn replied(&self) -> u32 {
+        match self.call.ring() {
+            Ring::Transmit => self.before.replied,
+            Ring::Receive => self.before.consumed,
+        }
+    }
+
+    /// Replies sent.
+    pub fn replies(&self) -> u32 {
+        match self.call.ring() {
+            Ring::Transmit => self.after.replied.wrapping_sub(self.before.replied),
+            Ring::Receive => self.slots(),
+        }
+    }
+
+    /// Whether replies were sent, and rsp_event was so far past the counter before them.
     pub fn event_at(&self, distance: u32) -> bool {
-        let event = self.before.consumed.wrapping_add(distance);
-        self.slots() > 0 && number(&self.before.page, 12, 4) == event.into()
+        let event = self.replied().wrapping_add(distance);
+        self.replies() > 0 && number(&self.before.page, 12, 4) == event.into()
     }
 
     /// The data slot that cause 4 or 5 concerns.
@@ -180,6 +214,12 @@ impl Facts<'_> {
     pub fn fault_is(&self, holds: fn(&Fault) -> bool) -> bool {
         self.fault.as_ref().is_some_and(holds)
     }
+}
+
+fn queue(state: &State) -> TransmitQueue {
+    let list = state.held.iter().copied().map(Held::from_words).collect();
+    let (consumed, replied) = (state.consumed.into(), state.replied.into());
+    TransmitQueue { consumed, replied, halted: state.halted, list }
 }
 
 fn packet(run: &[Slot]) -> Option<Packet> {

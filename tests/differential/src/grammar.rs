@@ -1,7 +1,7 @@
 //! The grammar by enumeration: every run of up to four slots, and every shape of up to twenty-four.
 
 use crate::bytes::{put_u16, put_u32};
-use crate::case::{Case, State, REFERENCE};
+use crate::case::{Call, Case, State, REFERENCE};
 use crate::cases::check;
 use crate::crash::{self, Phase};
 use crate::guest::Guest;
@@ -9,7 +9,6 @@ use crate::lending::Lending;
 use crate::library::Library;
 use crate::packet::{Packet, Shape};
 use crate::random::Random;
-use reference::calls::Ring;
 use reference::grammar::LIMIT;
 use reference::grants::whole_page_bytes;
 use reference::slots::Slot;
@@ -51,9 +50,9 @@ fn short_run(number: u32, length: u32) -> Case {
         put_u16(&mut page, at + 10, if place == 0 { 60 } else { 1 });
     }
     let grants = whole_page_bytes(3).repeat(512);
-    let before =
-        State { consumed: 0, halted: 0, page, grants, window: vec![0x77; 4096], frame: vec![0x11; 64] };
-    Case { ring: Ring::Transmit, before }
+    let (window, held, frame) = (vec![0x77; 4096], vec![[0; 5]], vec![0x11; 64]);
+    let before = State { consumed: 0, replied: 0, halted: 0, page, grants, window, held, frame };
+    Case { call: Call::Take, before }
 }
 
 /// Every shape of up to twenty-four slots.
@@ -77,5 +76,5 @@ fn shape_case(shape: Shape, posted: usize) -> Case {
     let random = &Random::new(shape.slots() as u64, posted as u64);
     let guest = Guest::new(random, 2);
     let slots: Vec<Slot> = Packet::new(random, &guest, shape).slots;
-    Lending::new(guest, posted, 65_535).case(random, Ring::Transmit, &slots)
+    Lending::new(random, guest, posted, 65_535).case(random, Call::Take, &slots)
 }

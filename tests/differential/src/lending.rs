@@ -1,10 +1,10 @@
 //! What the cases of both rings share: counters, marks, lengths, and the ring page.
 
 use crate::bytes::{put, put_u32};
-use crate::case::{Case, State};
+use crate::case::{Call, Case, State};
 use crate::guest::Guest;
 use crate::random::Random;
-use reference::calls::Ring;
+use crate::records::Records;
 use reference::ring::{slot_at, PAGE_BYTES};
 
 /// Marks of a halted queue.
@@ -17,6 +17,8 @@ const OVERFLOWS: [u32; 7] = [257, 257, 258, 512, 0x7FFF_FFFF, 0x8000_0000, u32::
 /// Everything lent to a call but the slots that matter to it.
 pub struct Lending {
     pub guest: Guest,
+    /// The counters and the list. Where a ring has no list, its counter of slots consumed.
+    pub records: Records,
     pub halted: u32,
     pub page_bytes: usize,
     pub posted: u32,
@@ -32,16 +34,34 @@ pub enum Refusal {
 }
 
 impl Lending {
-    pub fn new(guest: Guest, posted: usize, frame_bytes: usize) -> Lending {
-        Lending { guest, halted: 0, page_bytes: PAGE_BYTES, posted: posted as u32, frame_bytes }
+    /// With nothing held.
+    pub fn new(random: &Random, guest: Guest, posted: usize, frame_bytes: usize) -> Lending {
+        let past = random.pick(&[0, 0, random.below(40)]) as u32;
+        let consumed = if random.one_in(32) { 0 } else { counter(random).wrapping_add(past) };
+        let records = Records::fresh(consumed);
+        Lending { guest, records, halted: 0, page_bytes: PAGE_BYTES, posted: posted as u32, frame_bytes }
     }
 
     pub fn refuse(&mut self, random: &Random, refusal: Refusal) {
         match refusal {
-            Refusal::BadPage => self.page_bytes = random.pick(&WRONG_LENGTHS),
+            Refusal::BadPage => {
+                self.page_bytes = random.pick(&WRONG_LENGTHS);
+                self.halted = random.pick(&[0, 0, 0, random.pick(&MARKS)]);
+            }
             Refusal::HaltedAlready => self.halted = random.pick(&MARKS),
-            Refusal::Overflow => self.posted = random.pick(&OVERFLOWS),
+            Refusal::Overflow => self.posted = self.overflow(random),
         }
+    }
+
+    /// So many slots posted that with those held they are too many, or fewer than those held.
+    fn overflow(&self, random: &Random) -> u32 {
+        let held = self.records.between();
+        let unreplied = if held > 0 && random.one_in(2) {
+            random.pick(&[held - 1, held - 1, 0, random.below(held as usize) as u32])
+        } else {
+            random.pick(&OVERFLOWS)
+        };
+        unreplied.wrapping_sub(held)
     }
 
     /// Leaves less than a page of the window, or at most one word of the grant table.
@@ -54,24 +74,26 @@ impl Lending {
     }
 
     /// The case with these slots from the counter on.
-    pub fn case<const WIDTH: usize>(mut self, random: &Random, ring: Ring, slots: &[[u8; WIDTH]]) -> Case {
+    pub fn case<const WIDTH: usize>(mut self, random: &Random, call: Call, slots: &[[u8; WIDTH]]) -> Case {
         if random.one_in(16) {
             self.shorten(random);
         }
-        let consumed = counter(random);
-        let page = self.page(random, consumed, slots);
+        let page = self.page(random, slots);
         let frame = random.bytes(self.frame_bytes);
-        let Guest { grants, window, .. } = self.guest;
-        Case { ring, before: State { consumed, halted: self.halted, page, grants, window, frame } }
+        let (Guest { grants, window, .. }, halted) = (self.guest, self.halted);
+        let Records { consumed, replied, .. } = self.records;
+        let held = self.records.words();
+        Case { call, before: State { consumed, replied, halted, page, grants, window, held, frame } }
     }
 
     /// A page of random bytes but for req_prod, rsp_event and the slots.
-    fn page<const WIDTH: usize>(&self, random: &Random, consumed: u32, slots: &[[u8; WIDTH]]) -> Vec<u8> {
+    fn page<const WIDTH: usize>(&self, random: &Random, slots: &[[u8; WIDTH]]) -> Vec<u8> {
+        let Records { consumed, replied, .. } = self.records;
         let mut page = random.bytes(self.page_bytes);
         put_u32(&mut page, 0, consumed.wrapping_add(self.posted));
-        put_u32(&mut page, 12, event_near(random, consumed, slots.len()));
+        put_u32(&mut page, 12, event_near(random, random.pick(&[consumed, replied]), slots.len()));
         if random.one_in(2) {
-            put_u32(&mut page, 8, consumed);
+            put_u32(&mut page, 8, replied);
         }
         for (n, slot) in (u64::from(consumed)..).zip(slots) {
             put(&mut page, slot_at(WIDTH, n), slot);

@@ -4,14 +4,14 @@
 #![deny(warnings)]
 
 use differential::case::REFERENCE;
-use differential::coverage::{Answers, Coverage};
+use differential::coverage::Coverage;
 use differential::crash::{self, Phase};
 use differential::library::Library;
 use differential::options::Options;
 use differential::post_coverage::PostCoverage;
-use differential::{cases, grammar, posts, racing, sequence};
+use differential::sequence_counts::Counts;
+use differential::{cases, covers, grammar, posts, racing, sequence};
 use reference::calls::Ring;
-use reference::report::{DONE, EMPTY, HALTED_ALREADY, MISSHAPEN, NAMES, SPOILED, WAITING};
 use std::process::ExitCode;
 use std::time::{Duration, Instant};
 
@@ -20,12 +20,11 @@ const USAGE: &str =
                      differential racing [--seed S] [--seconds T]";
 
 /// Cases between two looks at the clock, and sequences and posts to so many cases.
-const ROUND_CASES: u64 = 1000;
+const ROUND_CASES: u64 = 1400;
 const ROUND_SEQUENCES: u64 = 20;
 const ROUND_POSTS: u64 = 200;
 
-/// The answers that sequences can give, each once in so many sequences at least.
-const SEQUENCE_ANSWERS: [u32; 6] = [DONE, HALTED_ALREADY, EMPTY, MISSHAPEN, WAITING, SPOILED];
+/// What sequences must come to comes once in so many sequences at least.
 const SEQUENCES_PER_ANSWER: u64 = 20;
 
 fn main() -> ExitCode {
@@ -50,15 +49,15 @@ struct Run {
     library: Library,
     coverage: Coverage,
     posts: PostCoverage,
-    /// Answers given in sequences.
-    answers: Answers,
+    /// What sequences have come to.
+    counts: Counts,
 }
 
 fn run(options: &Options) -> Result<(), String> {
     let seed = options.seed;
     crash::report_signals(seed);
     let (coverage, posts) = (Coverage::new(), PostCoverage::new());
-    let mut run = Run { seed, library: Library::new(), coverage, posts, answers: [0; NAMES.len()] };
+    let mut run = Run { seed, library: Library::new(), coverage, posts, counts: Counts::default() };
     if let Some(number) = options.case {
         return run.case(number).map(|()| println!("case {number} agrees"));
     }
@@ -70,6 +69,8 @@ fn run(options: &Options) -> Result<(), String> {
     }
     let checked = grammar::check_all(&mut run.library)?;
     println!("grammar: {checked} runs of slots agree");
+    let (checked, taken) = covers::check_all(&mut run.library)?;
+    println!("lists of records: {checked} agree, {taken} of them are taken");
     let checked = posts::check_lists(&mut run.library, &REFERENCE)?;
     println!("lists: {checked} posts with one fault in the list of references agree");
     run.rounds(options)
@@ -106,7 +107,7 @@ impl Run {
 
     fn sequence(&mut self, number: u64) -> Result<(), String> {
         crash::note(Phase::Sequence, number);
-        sequence::check(&mut self.library, self.seed, number, &mut self.answers)
+        sequence::check(&mut self.library, self.seed, number, &mut self.counts)
             .map_err(|difference| format!("seed {} sequence {number}: {difference}", self.seed))
     }
 
@@ -121,17 +122,12 @@ impl Run {
     fn report(&self, rounds: u64) -> Result<(), String> {
         let [cases, sequences, posts] =
             [ROUND_CASES, ROUND_SEQUENCES, ROUND_POSTS].map(|number| rounds * number);
-        print!("{}{}", self.coverage, self.posts);
-        println!("answers in sequences, by number: {:?}", self.answers);
+        print!("{}{}{}", self.coverage, self.posts, self.counts);
         let seed = self.seed;
         println!("differential: seed {seed}, {cases} cases, {sequences} sequences and {posts} posts agree");
-        let mut shortfalls = [self.coverage.shortfalls(), self.posts.shortfalls()].concat();
-        for answer in SEQUENCE_ANSWERS {
-            let count = self.answers[answer as usize];
-            if count < sequences / SEQUENCES_PER_ANSWER {
-                shortfalls.push(format!("sequences: answer {answer}: {count} calls"));
-            }
-        }
+        let least = sequences / SEQUENCES_PER_ANSWER;
+        let shortfalls =
+            [self.coverage.shortfalls(), self.posts.shortfalls(), self.counts.shortfalls(least)].concat();
         if shortfalls.is_empty() {
             return Ok(());
         }

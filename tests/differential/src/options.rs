@@ -18,7 +18,7 @@ pub struct Options {
 impl Options {
     pub fn parse(arguments: &[String]) -> Result<Options, String> {
         let (case, sequence, post) = (None, None, None);
-        let mut options = Options { seed: 1, cases: 200_000, time: None, case, sequence, post };
+        let mut options = Options { seed: 1, cases: 280_000, time: None, case, sequence, post };
         for pair in arguments.chunks(2) {
             let [name, value] = pair else { return Err(format!("{} wants a number", pair[0])) };
             let number = value.parse().map_err(|_| format!("{name}: {value} is not a number"))?;

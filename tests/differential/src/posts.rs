@@ -2,7 +2,7 @@
 //! posted.
 
 use crate::bytes::put_u32;
-use crate::case::{self, Case, Second, State};
+use crate::case::{self, Call, Case, Second, State};
 use crate::cases::PLACEMENTS;
 use crate::crash::{self, Phase};
 use crate::driver;
@@ -11,7 +11,7 @@ use crate::library::Library;
 use crate::post::{difference, Post, PostAnswer};
 use crate::post_facts::PostFacts;
 use crate::random::Random;
-use reference::calls::Ring;
+use crate::records::Records;
 use reference::report::{BAD_PAGES, DONE};
 use reference::ring::{slot_at, RING_SLOTS};
 use reference::slots::TRANSMIT_WIDTH;
@@ -82,8 +82,8 @@ fn check_post(
     Ok((expected, behind))
 }
 
-/// Takes what a done post left at the packet's first slot, now and then with further slots posted behind it, and gives
-/// their number. The frame and the gso are those that were posted.
+/// Takes what a done post left at the packet's first slot, now and then with further slots posted behind it and packets
+/// held before it, and gives the number of those slots. The frame and the gso are those that were posted.
 fn check_taken(
     library: &mut Library,
     second: &Second,
@@ -98,7 +98,7 @@ fn check_taken(
     let found = library.answer(&case, random.pick(&[Placement::End, Placement::Begin, Placement::Odd]))?;
     let (size, kind) = if post.gso.asked == 0 { (0, 0) } else { (post.gso.size, post.gso.kind) };
     let length = post.frame.len();
-    let expected = [DONE, 0, 0, slots, found.words[4], length as u32, 0, 0, size.into(), kind.into()];
+    let expected = [DONE, 0, 0, slots, 0, length as u32, 0, 0, size.into(), kind.into(), post.first()];
     if found.words != expected {
         return Err(format!("report: expected {expected:?}, found {:?}", found.words));
     }
@@ -108,7 +108,7 @@ fn check_taken(
     case::difference(&second.answer(&case), &found).map_or(Ok(behind), Err)
 }
 
-/// A transmit call at the packet's first slot, with room for the frame.
+/// A take at the packet's first slot, with room for the frame and a free record.
 fn take_case(random: &Random, post: &Post, answer: &PostAnswer, behind: u32) -> Case {
     let Post { page, grants, window, .. } = &answer.after;
     let mut page = page.clone();
@@ -120,8 +120,12 @@ fn take_case(random: &Random, post: &Post, answer: &PostAnswer, behind: u32) -> 
     put_u32(&mut page, 0, next.wrapping_add(behind));
     let room = random.pick(&[post.frame.len(), post.frame.len() + 1, 65_535]);
     let (grants, window, frame) = (grants.clone(), window.clone(), vec![0xB7; room]);
+    let most_held = RING_SLOTS as u32 - answer.words[3] - behind;
+    let mut records = Records::new(random, post.first(), most_held as usize);
+    records.make_room();
+    let (consumed, replied, held) = (records.consumed, records.replied, records.words());
     Case {
-        ring: Ring::Transmit,
-        before: State { consumed: post.first(), halted: 0, page, grants, window, frame },
+        call: Call::Take,
+        before: State { consumed, replied, halted: 0, page, grants, window, held, frame },
     }
 }

@@ -1,14 +1,17 @@
 //! A guest that rewrites the ring page while the library reads it. Document 01 rules this out; a host that lends
 //! the live page must still not be harmed: nothing outside the buffers is touched, and every call ends.
 
+use crate::case::Call;
 use crate::coverage::Answers;
-use crate::guarded::Guarded;
+use crate::guarded::{Guarded, Placed, Placement};
 use crate::library::{call, refuse_reserved, Parameters};
 use crate::random::Random;
+use crate::records::STATUSES;
 use reference::calls::Ring;
 use reference::grammar::{DATA_LIMIT, LIMIT};
 use reference::grants::word_bytes;
-use reference::report::{DONE, NAMES, SPOILED};
+use reference::held::HeldWords;
+use reference::report::{DONE, NAMES, NO_RECORD, SPOILED};
 use reference::ring::{slot_at, PAGE_BYTES};
 use reference::slots::{RECEIVE_WIDTH, TRANSMIT_WIDTH};
 use std::sync::atomic::{AtomicBool, AtomicU16, AtomicU32, AtomicU64, Ordering::Relaxed};
@@ -19,6 +22,10 @@ use std::time::{Duration, Instant};
 const CALL_TIMEOUT: Duration = Duration::from_secs(10);
 /// Slots from the counter on that are posted and rewritten: all that a call reads.
 const RACED_SLOTS: usize = LIMIT + 2;
+/// Slots before the counter that are rewritten too on a transmit ring: those of held packets.
+const RACED_HELD: usize = 12;
+/// Records of the list. With so many longest packets held there is room for all slots that are posted.
+const RECORDS: usize = 8;
 /// The guest's longest pause between two rewrites, in turns of a loop.
 const LONGEST_PAUSE: usize = 40;
 /// Rewrites with pauses in a loop, then rewrites with sleeps, in turn; and rewrites to one sleep.
@@ -63,10 +70,21 @@ struct Race {
     grants: Guarded,
     window: Guarded,
     frames: [Guarded; 2],
+    list: Guarded,
+    list_at: Placed,
     consumed: AtomicU32,
     calls: AtomicU64,
     rewrites: AtomicU64,
     over: AtomicBool,
+}
+
+/// What the host has for itself: its counters, the tickets of the packets that wait, and what the calls answered.
+struct Host {
+    consumed: u32,
+    replied: u32,
+    tickets: Vec<u32>,
+    answers: Answers,
+    finishes: u64,
 }
 
 // SAFETY: the threads reach the ring page by atomic words only, and the other buffers by the library's calls in the
@@ -79,39 +97,48 @@ pub fn race(ring: Ring, seed: u64, time: Duration) -> Result<String, String> {
     let words = GRANT_WORDS.map(|(word, start, length)| word_bytes(word, start, length)).concat();
     let grants = words.repeat(GRANTS_BYTES / words.len());
     let window = random.bytes(WINDOW_BYTES);
+    let mut list = Guarded::new(1, 4);
+    let list_at = list.place(&[0; RECORDS * size_of::<HeldWords>()], Placement::End);
     let mut race = Race {
         ring,
         page: Guarded::full(&random.bytes(PAGE_BYTES)),
         grants: Guarded::full(&grants),
         window: Guarded::full(&window),
         frames: FRAME_BYTES.map(|length| Guarded::full(&random.bytes(length))),
+        list,
+        list_at,
         consumed: AtomicU32::new(random.u32()),
         calls: AtomicU64::new(0),
         rewrites: AtomicU64::new(0),
         over: AtomicBool::new(false),
     };
-    let answers = race.run(seed, time)?;
+    let Host { answers, finishes, .. } = race.run(seed, time)?;
     if race.grants.memory() != grants {
         return Err("the grant table was written".to_string());
     }
     if ring == Ring::Transmit && race.window.memory() != window {
         return Err("a transmit call wrote to the window".to_string());
     }
-    let rewrites = race.rewrites.load(Relaxed);
-    if answers[DONE as usize] == 0 || rewrites < LEAST_REWRITES {
-        return Err(format!("no race: answers by number {answers:?}, {rewrites} rewrites"));
+    if race.list.contents(list_at).is_none_or(|list| list.iter().any(|&byte| byte != 0)) {
+        return Err("records in use when all is finished, or bytes written beside the list".to_string());
     }
-    Ok(format!("answers by number {answers:?}, {rewrites} rewrites"))
+    let rewrites = race.rewrites.load(Relaxed);
+    let summary = format!("answers by number {answers:?}, {finishes} finishes, {rewrites} rewrites");
+    let none_finished = ring == Ring::Transmit && finishes == 0;
+    if answers[DONE as usize] == 0 || none_finished || rewrites < LEAST_REWRITES {
+        return Err(format!("no race: {summary}"));
+    }
+    Ok(summary)
 }
 
 impl Race {
-    fn run(&self, seed: u64, time: Duration) -> Result<Answers, String> {
+    fn run(&self, seed: u64, time: Duration) -> Result<Host, String> {
         thread::scope(|scope| {
             scope.spawn(|| self.guest(&Random::new(seed, 1)));
             scope.spawn(|| self.watch());
-            let answers = self.host(&Random::new(seed, 2), time);
+            let host = self.host(&Random::new(seed, 2), time);
             self.over.store(true, Relaxed);
-            answers
+            host
         })
     }
 
@@ -121,23 +148,52 @@ impl Race {
         unsafe { std::slice::from_raw_parts(self.page.start().cast(), PAGE_BYTES / 2) }
     }
 
-    /// Posts slots that are in order and calls the library on what the guest makes of them.
-    fn host(&self, random: &Random, time: Duration) -> Result<Answers, String> {
+    /// Posts slots that are in order and calls the library on what the guest makes of them. Packets are finished in any
+    /// order, and in the end all.
+    fn host(&self, random: &Random, time: Duration) -> Result<Host, String> {
         let start = Instant::now();
-        let mut consumed = self.consumed.load(Relaxed);
-        let mut answers = [0; NAMES.len()];
+        let consumed = self.consumed.load(Relaxed);
+        let (tickets, answers) = (Vec::new(), [0; NAMES.len()]);
+        let mut host = Host { consumed, replied: consumed, tickets, answers, finishes: 0 };
         while start.elapsed() < time {
-            self.consumed.store(consumed, Relaxed);
-            self.post(random, consumed);
-            let answer = self.call(random, &mut consumed)?;
-            self.calls.fetch_add(1, Relaxed);
-            let count = answers.get_mut(answer as usize).ok_or_else(|| format!("answer {answer}"))?;
+            self.consumed.store(host.consumed, Relaxed);
+            self.post(random, host.consumed);
+            let answer = self.take_or_put(random, &mut host)?;
+            let count = host.answers.get_mut(answer as usize).ok_or_else(|| format!("answer {answer}"))?;
             *count += 1;
-            if answer != DONE && answer != SPOILED {
-                consumed = consumed.wrapping_add(1);
+            if !host.tickets.is_empty() && (answer == NO_RECORD || random.one_in(2)) {
+                self.finish(random, &mut host)?;
+            }
+            if ![DONE, SPOILED, NO_RECORD].contains(&answer) {
+                self.finish_all(random, &mut host)?;
+                (host.consumed, host.replied) = (host.consumed.wrapping_add(1), host.replied.wrapping_add(1));
             }
         }
-        Ok(answers)
+        self.finish_all(random, &mut host)?;
+        Ok(host)
+    }
+
+    /// Finishes all packets. Then all slots consumed are replied to.
+    fn finish_all(&self, random: &Random, host: &mut Host) -> Result<(), String> {
+        while !host.tickets.is_empty() {
+            self.finish(random, host)?;
+        }
+        if self.ring == Ring::Transmit && host.replied != host.consumed {
+            return Err(format!("all finished, consumed {}, replied {}", host.consumed, host.replied));
+        }
+        Ok(())
+    }
+
+    /// Finishes one of the packets that wait.
+    fn finish(&self, random: &Random, host: &mut Host) -> Result<(), String> {
+        let ticket = host.tickets.swap_remove(random.below(host.tickets.len()));
+        let status = random.pick(&STATUSES);
+        let (answer, _) = self.call(Call::Finish { ticket, status }, host, 0, 0)?;
+        host.finishes += 1;
+        if answer != DONE {
+            return Err(format!("a finish of ticket {ticket} is answered {answer}"));
+        }
+        Ok(())
     }
 
     fn store(&self, at: usize, value: u16) {
@@ -169,33 +225,50 @@ impl Race {
         self.store_u32(0, consumed.wrapping_add(RACED_SLOTS as u32));
     }
 
-    fn call(&self, random: &Random, consumed: &mut u32) -> Result<u32, String> {
-        let (mut halted, mut report) = (0, [0; 10]);
+    fn take_or_put(&self, random: &Random, host: &mut Host) -> Result<u32, String> {
         let which = random.below(2);
-        let frame_bytes = match self.ring {
-            Ring::Transmit => FRAME_BYTES[which],
-            Ring::Receive => random.between(14, FRAME_BYTES[which] - 1),
+        let Ring::Transmit = self.ring else {
+            let length = random.between(14, FRAME_BYTES[which] - 1);
+            return self.call(Call::Put, host, which, length).map(|(answer, _)| answer);
         };
+        let first = host.consumed;
+        let (answer, ticket) = self.call(Call::Take, host, which, FRAME_BYTES[which])?;
+        if answer == DONE {
+            host.tickets.push(ticket);
+        }
+        if answer == DONE && ticket != first {
+            return Err(format!("ticket {ticket} of the packet at {first}"));
+        }
+        Ok(answer)
+    }
+
+    /// Calls the library with the frame buffer of a number, and gives the answer and the ticket.
+    fn call(&self, which: Call, host: &mut Host, frame: usize, length: usize) -> Result<(u32, u32), String> {
+        let (mut halted, mut report) = (0, [0; 11]);
         let parameters = Parameters {
-            consumed,
+            consumed: &mut host.consumed,
+            replied: &mut host.replied,
             halted: &mut halted,
             page: (self.page.start(), PAGE_BYTES),
             grants: (self.grants.start(), GRANTS_BYTES),
             window: (self.window.start(), WINDOW_BYTES),
-            frame: (self.frames[which].start(), frame_bytes),
+            held: (self.list.pointer(self.list_at).cast(), RECORDS),
+            frame: (self.frames[frame].start(), length),
             report: &mut report,
         };
         // SAFETY: the lengths are those of the buffers, which are apart. The page changes meanwhile.
-        let answer = unsafe { call(self.ring, &parameters) };
+        let answer = unsafe { call(which, &parameters) };
+        self.calls.fetch_add(1, Relaxed);
         refuse_reserved(&report)?;
-        Ok(answer)
+        Ok((answer, report[10]))
     }
 
     /// Rewrites fields of the slots that the host's call may be reading, until the race is over.
     fn guest(&self, random: &Random) {
+        let behind = if self.ring == Ring::Transmit { RACED_HELD } else { 0 };
         while !self.over.load(Relaxed) {
-            let ahead = random.below(RACED_SLOTS) as u32;
-            let n = self.consumed.load(Relaxed).wrapping_add(ahead).into();
+            let place = random.below(behind + RACED_SLOTS) as u32;
+            let n = self.consumed.load(Relaxed).wrapping_add(place).wrapping_sub(behind as u32).into();
             match self.ring {
                 Ring::Transmit => self.rewrite_transmit_slot(random, slot_at(TRANSMIT_WIDTH, n)),
                 Ring::Receive => self.rewrite_reference(random, slot_at(RECEIVE_WIDTH, n) + 4),

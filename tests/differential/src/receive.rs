@@ -1,11 +1,10 @@
 //! Receive cases: requests that take the frame, then one change that aims at an answer, and sometimes a second.
 
 use crate::bytes::put_u32;
-use crate::case::Case;
+use crate::case::{Call, Case};
 use crate::guest::Guest;
 use crate::lending::{Lending, Refusal};
 use crate::random::Random;
-use reference::calls::Ring;
 use reference::slots::RECEIVE_WIDTH;
 
 /// The answer or cause that a change aims at. Where there are two changes, the earlier answer comes out.
@@ -46,7 +45,7 @@ pub fn case(random: &Random) -> Case {
         let second = random.pick(&AIMS);
         draft.change(random, second);
     }
-    draft.lending.case(random, Ring::Receive, &draft.requests)
+    draft.lending.case(random, Call::Put, &draft.requests)
 }
 
 fn frame_length(random: &Random) -> usize {
@@ -73,7 +72,7 @@ impl Draft {
             request
         };
         let requests = (0..needed).map(request).collect();
-        Draft { requests, lending: Lending::new(guest, posted.max(needed), length) }
+        Draft { requests, lending: Lending::new(random, guest, posted.max(needed), length) }
     }
 
     fn change(&mut self, random: &Random, aim: Aim) {

@@ -1,11 +1,11 @@
-//! Transmit cases: a good packet at the counter, then one change that aims at an answer, and sometimes a second.
+//! Take cases: a good packet at the counter, then one change that aims at an answer, and sometimes a second.
 
-use crate::case::Case;
+use crate::case::{Call, Case};
 use crate::guest::Guest;
 use crate::lending::{Lending, Refusal};
 use crate::packet::{Packet, Shape};
 use crate::random::Random;
-use reference::calls::Ring;
+use crate::records::{Records, FAULTS};
 use reference::grammar::{DATA_LIMIT, EXTRA_LIMIT};
 
 /// The answer or cause that a change aims at. Where there are two changes, the earlier answer comes out.
@@ -13,6 +13,7 @@ use reference::grammar::{DATA_LIMIT, EXTRA_LIMIT};
 enum Aim {
     Done,
     Refused(Refusal),
+    BadRecords,
     Empty,
     Misshapen,
     TooLong,
@@ -23,15 +24,19 @@ enum Aim {
     OffsetBad,
     GsoBad,
     NoRoom,
+    NoRecord,
     Noise,
 }
 
-const AIMS: [Aim; 18] = [
+const AIMS: [Aim; 22] = [
     Aim::Done,
     Aim::Done,
     Aim::Refused(Refusal::BadPage),
     Aim::Refused(Refusal::HaltedAlready),
     Aim::Refused(Refusal::Overflow),
+    Aim::BadRecords,
+    Aim::BadRecords,
+    Aim::BadRecords,
     Aim::Empty,
     Aim::Misshapen,
     Aim::TooLong,
@@ -44,6 +49,7 @@ const AIMS: [Aim; 18] = [
     Aim::OffsetBad,
     Aim::GsoBad,
     Aim::NoRoom,
+    Aim::NoRecord,
     Aim::Noise,
 ];
 
@@ -53,7 +59,7 @@ struct Draft {
     lending: Lending,
 }
 
-/// A transmit case.
+/// A take case.
 pub fn case(random: &Random) -> Case {
     let aim = random.pick(&AIMS);
     let mut draft = Draft::good(random, aim);
@@ -62,7 +68,7 @@ pub fn case(random: &Random) -> Case {
         let second = random.pick(&AIMS);
         draft.change(random, second);
     }
-    draft.lending.case(random, Ring::Transmit, &draft.packet.slots)
+    draft.lending.case(random, Call::Take, &draft.packet.slots)
 }
 
 /// The shape of a packet with at least so many extras and later slots; now and then the longest there is.
@@ -103,13 +109,20 @@ impl Draft {
             random.pick(&[slots, slots, slots + 1, 17, 18, 19, 22, 255, 256, random.between(1, 256)]);
         let total = packet.total();
         let frame_bytes = random.pick(&[total, total, total + 1, total + 64, 65_535]);
-        Draft { packet, lending: Lending::new(guest, posted.max(slots), frame_bytes) }
+        let mut lending = Lending::new(random, guest, posted.max(slots), frame_bytes);
+        if random.one_in(2) || aim == Aim::BadRecords {
+            let room = 256 - random.pick(&[lending.posted as usize, slots]);
+            lending.records = Records::new(random, lending.records.consumed, room);
+            lending.posted = lending.posted.min(256 - lending.records.between());
+        }
+        Draft { packet, lending }
     }
 
     fn change(&mut self, random: &Random, aim: Aim) {
         match aim {
             Aim::Done => {}
             Aim::Refused(refusal) => self.lending.refuse(random, refusal),
+            Aim::BadRecords => self.lending.records.break_by(random, random.pick(&FAULTS)),
             Aim::Empty => self.lending.posted = 0,
             Aim::Misshapen => self.packet.make_misshapen(random),
             Aim::TooLong => {
@@ -127,6 +140,7 @@ impl Draft {
                 let below = self.packet.total().saturating_sub(1);
                 self.lending.frame_bytes = random.pick(&[below, below, 0, random.between(0, below)]);
             }
+            Aim::NoRecord => self.lending.records.drop_free(),
             Aim::Noise => {
                 let count = random.between(1, 24);
                 let packet = Packet::noise(random, &self.lending.guest, count);

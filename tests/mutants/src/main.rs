@@ -1,5 +1,5 @@
 //! Runs the differential test with each wrong variant of the second program in its place. Every one must be caught:
-//! those of take and put by cases, those of post by posts.
+//! those of take, finish and put by cases, those of post by posts.
 
 #![deny(warnings)]
 
@@ -69,14 +69,14 @@ fn main() -> ExitCode {
         }
     }
     let mut caught = 0;
-    for (name, second) in MUTANTS {
+    for (name, second) in MUTANTS.iter().chain(HELD_MUTANTS) {
         caught += usize::from(is_caught(name, by_cases(library, second, MOST_CASES)));
     }
     for (name, second) in POST_MUTANTS {
         let told = by_posts(library, second, MOST_POSTS).or_else(|| by_lists(library, second));
         caught += usize::from(is_caught(name, told));
     }
-    let all = MUTANTS.len() + POST_MUTANTS.len();
+    let all = MUTANTS.len() + HELD_MUTANTS.len() + POST_MUTANTS.len();
     println!("mutants: {caught} of {all} caught");
     if caught == all {
         ExitCode::SUCCESS

@@ -1,10 +1,12 @@
 //! The calls with the parameters of the C interface: numbers and buffers that are changed in place.
 
+use super::held::{Held, HeldWords, TransmitQueue};
 use super::post::{self, Gso, Order};
-use super::report::{Buffer, Change, Lent, Outcome, Queue};
-use super::{receive, transmit};
+use super::receive::{self, ReceiveQueue};
+use super::report::{Buffer, Change, Lent};
+use super::{finish, transmit};
 
-/// A queue's two rings, each with its own call.
+/// A queue's two rings, each with its own calls.
 #[derive(Clone, Copy, Debug, PartialEq, Eq)]
 pub enum Ring {
     Transmit,
@@ -12,22 +14,45 @@ pub enum Ring {
 }
 
 /// The report as the C interface gives it.
-pub type Words = [u32; 10];
+pub type Words = [u32; 11];
 
-/// tollmeander_transmit_take, done by the second program.
+/// tollmeander_transmit_take, done by the second program. The numbers are the counters of slots consumed and of replies
+/// sent, and the mark.
 pub fn transmit_take(
-    consumed: &mut u32,
-    halted: &mut u32,
+    numbers: [&mut u32; 3],
     page: &mut [u8],
     grants: &[u8],
     window: &[u8],
+    held: &mut [HeldWords],
     frame: &mut [u8],
 ) -> Words {
+    let [consumed, replied, halted] = numbers;
     let lent = Lent { page, grants, window, frame };
-    let outcome = transmit::take(queue(*consumed, *halted), &lent);
+    let outcome = transmit::take(transmit_queue(*consumed, *replied, *halted, held), &lent);
     apply(&outcome.changes, Buffer::Page, page);
     apply(&outcome.changes, Buffer::Frame, frame);
-    store(&outcome, consumed, halted)
+    store_list(&outcome.queue, held);
+    *consumed = outcome.queue.consumed as u32;
+    *replied = outcome.queue.replied as u32;
+    *halted = outcome.queue.halted;
+    outcome.report.words()
+}
+
+/// tollmeander_transmit_finish, done by the second program.
+pub fn transmit_finish(
+    consumed: u32,
+    replied: &mut u32,
+    page: &mut [u8],
+    held: &mut [HeldWords],
+    ticket: u32,
+    status: i32,
+) -> Words {
+    let queue = transmit_queue(consumed, *replied, 0, held);
+    let outcome = finish::finish(queue, page, ticket.into(), status);
+    apply(&outcome.changes, Buffer::Page, page);
+    store_list(&outcome.queue, held);
+    *replied = outcome.queue.replied as u32;
+    outcome.report.words()
 }
 
 /// tollmeander_receive_put, done by the second program.
@@ -40,10 +65,13 @@ pub fn receive_put(
     frame: &[u8],
 ) -> Words {
     let lent = Lent { page, grants, window, frame };
-    let outcome = receive::put(queue(*consumed, *halted), &lent);
+    let queue = ReceiveQueue { consumed: (*consumed).into(), halted: *halted };
+    let outcome = receive::put(queue, &lent);
     apply(&outcome.changes, Buffer::Page, page);
     apply(&outcome.changes, Buffer::Window, window);
-    store(&outcome, consumed, halted)
+    *consumed = outcome.queue.consumed as u32;
+    *halted = outcome.queue.halted;
+    outcome.report.words()
 }
 
 /// tollmeander_transmit_post, done by the second program. The numbers are the count of replies read, whether gso is
@@ -72,12 +100,14 @@ pub fn apply(changes: &[Change], buffer: Buffer, bytes: &mut [u8]) {
     }
 }
 
-fn queue(consumed: u32, halted: u32) -> Queue {
-    Queue { consumed: consumed.into(), halted }
+fn transmit_queue(consumed: u32, replied: u32, halted: u32, held: &[HeldWords]) -> TransmitQueue {
+    let list = held.iter().copied().map(Held::from_words).collect();
+    TransmitQueue { consumed: consumed.into(), replied: replied.into(), halted, list }
 }
 
-fn store(outcome: &Outcome, consumed: &mut u32, halted: &mut u32) -> Words {
-    *consumed = outcome.queue.consumed as u32;
-    *halted = outcome.queue.halted;
-    outcome.report.words()
+/// Puts the list that a call leaves in the place of the one lent.
+fn store_list(queue: &TransmitQueue, held: &mut [HeldWords]) {
+    for (words, record) in held.iter_mut().zip(&queue.list) {
+        *words = record.words();
+    }
 }

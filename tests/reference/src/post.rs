@@ -4,8 +4,7 @@ use super::grammar::EXTRA_KIND;
 use super::grants::{fit_grant, Access, PAGE_BYTES};
 use super::report::*;
 use super::ring;
-use super::slots::{data_bytes, extra_bytes, Data, Extra, Slot, TRANSMIT_WIDTH};
-use super::transmit::gso_passes;
+use super::slots::{data_bytes, extra_bytes, gso_passes, Data, Extra, Slot, TRANSMIT_WIDTH};
 use super::words::{minus, plus};
 
 /// Bytes of a frame that one page takes.

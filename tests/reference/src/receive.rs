@@ -2,14 +2,23 @@
 
 use super::grants::{fit_grant, Access, Grant, PAGE_BYTES};
 use super::report::*;
-use super::ring;
+use super::ring::{self, send, Sent};
 use super::slots::{receive_reply, request, Request, ERROR, MORE_DATA, RECEIVE_WIDTH};
 
 /// Bytes of a frame that one request takes.
 const PIECE_BYTES: usize = PAGE_BYTES as usize;
 
+/// A receive ring's counter of slots consumed, and its halted mark: 0 is not halted, all else is.
+#[derive(Clone, Copy, Debug, PartialEq, Eq)]
+pub struct ReceiveQueue {
+    pub consumed: u64,
+    pub halted: u32,
+}
+
+type Put = Outcome<ReceiveQueue>;
+
 /// The outcome of a receive call.
-pub fn put(queue: Queue, lent: &Lent) -> Outcome {
+pub fn put(queue: ReceiveQueue, lent: &Lent) -> Put {
     if lent.page.len() != ring::PAGE_BYTES {
         return Outcome::refused(queue, BAD_PAGE);
     }
@@ -21,7 +30,7 @@ pub fn put(queue: Queue, lent: &Lent) -> Outcome {
     }
     let posted = ring::posted(lent.page, queue.consumed);
     if posted > ring::RING_SLOTS {
-        return Outcome::halting(queue, OVERFLOW);
+        return Outcome::refused(ReceiveQueue { halted: 1, ..queue }, OVERFLOW);
     }
     let needed = lent.frame.len().div_ceil(PIECE_BYTES) as u64;
     if posted < needed {
@@ -33,17 +42,17 @@ pub fn put(queue: Queue, lent: &Lent) -> Outcome {
 }
 
 /// The outcome for a frame that takes exactly these requests.
-fn deliver(queue: Queue, lent: &Lent, requests: &[Request]) -> Outcome {
+fn deliver(queue: ReceiveQueue, lent: &Lent, requests: &[Request]) -> Put {
     let grant = |r: &Request| fit_grant(lent.grants, lent.window, r.gref, Access::Write);
     let grants: Vec<Option<Grant>> = requests.iter().map(grant).collect();
     if let Some(place) = grants.iter().position(Option::is_none) {
         let report = Report { answer: SPOILED, cause: 4, place: place as u32, ..Report::default() };
         let replies = requests.iter().map(|r| receive_reply(r.id, 0, ERROR)).collect();
-        return ring::consume(queue, lent.page, RECEIVE_WIDTH, replies, report);
+        return consume(queue, lent.page, replies, report);
     }
     let report = Report { answer: DONE, total: lent.frame.len() as u32, ..Report::default() };
     let replies = okay_replies(lent.frame, requests);
-    let mut outcome = ring::consume(queue, lent.page, RECEIVE_WIDTH, replies, report);
+    let mut outcome = consume(queue, lent.page, replies, report);
     let write = |(piece, grant): (&[u8], Grant)| Change {
         buffer: Buffer::Window,
         at: grant.page_at as usize,
@@ -52,6 +61,13 @@ fn deliver(queue: Queue, lent: &Lent, requests: &[Request]) -> Outcome {
     let pieces = lent.frame.chunks(PIECE_BYTES);
     outcome.changes.extend(pieces.zip(grants.into_iter().flatten()).map(write));
     outcome
+}
+
+/// The outcome that consumes a slot for each reply and sends the reply, with slots and notify put into the report.
+fn consume(queue: ReceiveQueue, page: &[u8], replies: Vec<Vec<u8>>, report: Report) -> Put {
+    let Sent { slots, counter, notify, changes } = send(page, RECEIVE_WIDTH, queue.consumed, replies);
+    let report = Report { slots: slots as u32, notify, ..report };
+    Outcome { report, queue: ReceiveQueue { consumed: counter, ..queue }, changes }
 }
 
 /// Replies that carry each piece's length and say whether another piece follows.

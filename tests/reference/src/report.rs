@@ -14,6 +14,9 @@ pub const NO_BUFFERS: u32 = 10;
 pub const NO_SLOTS: u32 = 11;
 pub const BAD_PAGES: u32 = 12;
 pub const BAD_GSO: u32 = 13;
+pub const NO_RECORD: u32 = 14;
+pub const BAD_TICKET: u32 = 15;
+pub const BAD_RECORDS: u32 = 17;
 
 /// The cause for a total above 65,535, which a size of 16 bits cannot be. No call reports it.
 pub const RESERVED_CAUSE: u32 = 2;
@@ -22,8 +25,8 @@ pub const RESERVED_CAUSE: u32 = 2;
 pub const SMALLEST_FRAME: u64 = 14;
 pub const LARGEST_FRAME: u64 = 65_535;
 
-/// The answers' names, by number.
-pub const NAMES: [&str; 14] = [
+/// The answers' names, by number. No call gives 16.
+pub const NAMES: [&str; 18] = [
     "done",
     "bad-page",
     "halted-already",
@@ -38,6 +41,10 @@ pub const NAMES: [&str; 14] = [
     "no-slots",
     "bad-pages",
     "bad-gso",
+    "no-record",
+    "bad-ticket",
+    "",
+    "bad-records",
 ];
 
 /// What a call reports. A field that the answer does not name is 0.
@@ -53,11 +60,12 @@ pub struct Report {
     pub data_validated: bool,
     pub gso_size: u32,
     pub gso_type: u32,
+    pub ticket: u32,
 }
 
 impl Report {
-    /// The ten words of the C interface.
-    pub fn words(&self) -> [u32; 10] {
+    /// The eleven words of the C interface.
+    pub fn words(&self) -> [u32; 11] {
         [
             self.answer,
             self.cause,
@@ -69,15 +77,9 @@ impl Report {
             self.data_validated.into(),
             self.gso_size,
             self.gso_type,
+            self.ticket,
         ]
     }
-}
-
-/// A ring's counter of slots consumed, and its halted mark: 0 is not halted, all else is.
-#[derive(Clone, Copy, Debug, PartialEq, Eq)]
-pub struct Queue {
-    pub consumed: u64,
-    pub halted: u32,
 }
 
 /// What the host lends for a call.
@@ -103,28 +105,24 @@ pub struct Change {
     pub bytes: Vec<u8>,
 }
 
-/// What a call leaves. Changes apply in order, and bytes that none of them covers stay.
+/// What a call leaves of a queue and of the lent buffers. Changes apply in order, and bytes that none of them covers
+/// stay.
 #[derive(Clone, Debug, PartialEq, Eq)]
-pub struct Outcome {
+pub struct Outcome<Queue> {
     pub report: Report,
     pub queue: Queue,
     pub changes: Vec<Change>,
 }
 
-impl Outcome {
-    /// A refusal that changes nothing.
-    pub fn refused(queue: Queue, answer: u32) -> Outcome {
+impl<Queue> Outcome<Queue> {
+    /// A refusal that leaves this queue and the buffers as found.
+    pub fn refused(queue: Queue, answer: u32) -> Outcome<Queue> {
         let report = Report { answer, ..Report::default() };
         Outcome { report, queue, changes: Vec::new() }
     }
 
-    /// A refusal that halts the queue and leaves the buffers as found.
-    pub fn halting(queue: Queue, answer: u32) -> Outcome {
-        Outcome::refused(Queue { halted: 1, ..queue }, answer)
-    }
-
     /// A refusal that asks for an event, by `change`, when the guest posts more.
-    pub fn asking(queue: Queue, answer: u32, change: Change) -> Outcome {
+    pub fn asking(queue: Queue, answer: u32, change: Change) -> Outcome<Queue> {
         Outcome { changes: vec![change], ..Outcome::refused(queue, answer) }
     }
 }

@@ -1,6 +1,6 @@
 //! The ring page, for slots of any width.
 
-use super::report::{Buffer, Change, Outcome, Queue, Report};
+use super::report::{Buffer, Change};
 use super::words::{minus, number, plus};
 
 pub const PAGE_BYTES: usize = 4096;
@@ -22,9 +22,9 @@ pub fn req_prod(page: &[u8]) -> u64 {
     number(page, REQ_PROD, 4)
 }
 
-/// The number of slots posted and not yet consumed.
-pub fn posted(page: &[u8], consumed: u64) -> u64 {
-    minus(req_prod(page), consumed)
+/// The number of slots posted from a counter on.
+pub fn posted(page: &[u8], counter: u64) -> u64 {
+    minus(req_prod(page), counter)
 }
 
 /// The counter of replies as the page holds it.
@@ -52,18 +52,26 @@ pub fn event_for_next(page: &[u8]) -> Change {
     header_word(REQ_EVENT, plus(req_prod(page), 1))
 }
 
-/// The outcome that consumes a slot for each reply, with slots and notify put into the report.
-pub fn consume(queue: Queue, page: &[u8], width: usize, replies: Vec<Vec<u8>>, report: Report) -> Outcome {
+/// Replies on their way to the guest.
+pub struct Sent {
+    /// How many they are.
+    pub slots: u64,
+    /// The counter of replies after them.
+    pub counter: u64,
+    pub notify: bool,
+    pub changes: Vec<Change>,
+}
+
+/// Sends replies to the slots from `old` on, the counter of replies before them. Where there is none, rsp_prod stays.
+pub fn send(page: &[u8], width: usize, old: u64, replies: Vec<Vec<u8>>) -> Sent {
     let slots = replies.len() as u64;
-    let old = queue.consumed;
     let new = plus(old, slots);
     let reply = |(n, bytes)| on_page(slot_at(width, plus(old, n)), bytes);
-    let changes = (0..).zip(replies).map(reply).chain([header_word(RSP_PROD, new)]);
-    Outcome {
-        report: Report { slots: slots as u32, notify: notify(page, RSP_EVENT, old, new), ..report },
-        queue: Queue { consumed: new, ..queue },
-        changes: changes.collect(),
+    let mut changes: Vec<Change> = (0..).zip(replies).map(reply).collect();
+    if slots > 0 {
+        changes.push(header_word(RSP_PROD, new));
     }
+    Sent { slots, counter: new, notify: notify(page, RSP_EVENT, old, new), changes }
 }
 
 /// A word of the page's header.

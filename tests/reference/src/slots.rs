@@ -12,6 +12,7 @@ pub type Slot = [u8; TRANSMIT_WIDTH];
 
 pub const OKAY: i16 = 0;
 pub const ERROR: i16 = -1;
+pub const DROPPED: i16 = -2;
 pub const NULL: i16 = 1;
 
 /// Receive reply flag: another piece of the frame follows.
@@ -72,6 +73,11 @@ pub fn extra(slot: &Slot) -> Extra {
         gso_size: number(slot, 2, 2),
         gso_type: number(slot, 4, 1),
     }
+}
+
+/// Whether cause 6 lets a gso size and type pass.
+pub fn gso_passes(size: u64, kind: u64) -> bool {
+    size != 0 && (1..=2).contains(&kind)
 }
 
 /// The bytes of an extra. Its pad, its features and the bytes that no field has are 0.

@@ -1,17 +1,26 @@
-//! The transmit call: takes the packet at the counter.
+//! The transmit call: takes the packet at the counter, and holds it until the host has finished it.
 
+use super::finish::release;
 use super::grammar::{self, Front};
 use super::grants::{fit_grant, Access};
+use super::held::{Held, TransmitQueue};
 use super::report::*;
-use super::ring;
-use super::slots::{data, extra, transmit_reply, Data, Extra, Slot};
-use super::slots::{ERROR, NULL, OKAY, TRANSMIT_WIDTH};
+use super::ring::{self, Sent};
+use super::slots::{data, extra, gso_passes, Data, Extra, Slot, ERROR, OKAY};
+use super::words::plus;
 
 /// A packet's slots, read as the grammar lays them out.
 pub struct Packet {
     pub first: Data,
     pub extras: Vec<Extra>,
     pub later: Vec<Data>,
+}
+
+impl Packet {
+    /// How many slots it has, extras counted.
+    pub fn slots(&self) -> usize {
+        1 + self.extras.len() + self.later.len()
+    }
 }
 
 /// What a data slot gives to the frame.
@@ -28,44 +37,84 @@ pub struct Piece {
 /// A reason to reply with an error, and the position in the packet it concerns.
 type Cause = (u32, usize);
 
+type Taken = Outcome<TransmitQueue>;
+
 /// The outcome of a transmit call.
-pub fn take(queue: Queue, lent: &Lent) -> Outcome {
+pub fn take(queue: TransmitQueue, lent: &Lent) -> Taken {
     if lent.page.len() != ring::PAGE_BYTES {
         return Outcome::refused(queue, BAD_PAGE);
+    }
+    if !queue.faults().is_empty() {
+        return Outcome::refused(queue, BAD_RECORDS);
     }
     if queue.halted != 0 {
         return Outcome::refused(queue, HALTED_ALREADY);
     }
-    let posted = ring::posted(lent.page, queue.consumed);
-    if posted > ring::RING_SLOTS {
-        return Outcome::halting(queue, OVERFLOW);
+    let unreplied = ring::posted(lent.page, queue.replied);
+    if unreplied > ring::RING_SLOTS || unreplied < queue.held_slots() {
+        return halting(queue, OVERFLOW);
     }
+    let posted = unreplied - queue.held_slots();
     if posted == 0 {
         return Outcome::asking(queue, EMPTY, ring::event_for_next(lent.page));
     }
     let run: Vec<Slot> = ring::slots(lent.page, queue.consumed, posted);
     match grammar::front(&run) {
-        Front::Misshapen => Outcome::halting(queue, MISSHAPEN),
+        Front::Misshapen => halting(queue, MISSHAPEN),
         Front::Beginning => Outcome::asking(queue, WAITING, ring::event_for_next(lent.page)),
         Front::Packet(count) => settle(queue, lent, &run[..count]),
     }
 }
 
+/// A refusal that halts the queue and leaves the buffers as found.
+pub fn halting(queue: TransmitQueue, answer: u32) -> Taken {
+    Outcome::refused(TransmitQueue { halted: 1, ..queue }, answer)
+}
+
 /// The outcome for the packet that stands at the counter.
-pub fn settle(queue: Queue, lent: &Lent, slots: &[Slot]) -> Outcome {
+pub fn settle(queue: TransmitQueue, lent: &Lent, slots: &[Slot]) -> Taken {
     let packet = read(slots);
-    if let Some(&(cause, place)) = causes(&packet, lent).first() {
-        let report = Report { answer: SPOILED, cause, place: place as u32, ..Report::default() };
-        return ring::consume(queue, lent.page, TRANSMIT_WIDTH, replies(&packet, ERROR), report);
-    }
-    if (lent.frame.len() as u64) < packet.first.size {
+    let cause = causes(&packet, lent).first().copied();
+    if cause.is_none() && (lent.frame.len() as u64) < packet.first.size {
         return Outcome::refused(queue, NO_ROOM);
     }
-    let report = done_report(&packet);
-    let mut outcome = ring::consume(queue, lent.page, TRANSMIT_WIDTH, replies(&packet, OKAY), report);
-    let bytes = joined(&packet, lent);
-    outcome.changes.push(Change { buffer: Buffer::Frame, at: 0, bytes });
-    outcome
+    let Some(free) = queue.first_free() else {
+        return Outcome::refused(queue, NO_RECORD);
+    };
+    match cause {
+        Some(cause) => spoil(queue, lent.page, &packet, free, cause),
+        None => hand_over(queue, lent, &packet, free),
+    }
+}
+
+/// The outcome for a packet without causes: it waits for the host's word, and no reply leaves.
+fn hand_over(mut queue: TransmitQueue, lent: &Lent, packet: &Packet, free: usize) -> Taken {
+    let report = done_report(packet, queue.consumed);
+    hold(&mut queue, free, packet, OKAY, 0);
+    let bytes = joined(packet, lent);
+    Outcome { report, queue, changes: vec![Change { buffer: Buffer::Frame, at: 0, bytes }] }
+}
+
+/// The outcome for a packet with a cause: it is finished at once with an error, and its replies leave in their turn.
+fn spoil(
+    mut queue: TransmitQueue,
+    page: &[u8],
+    packet: &Packet,
+    free: usize,
+    (cause, place): Cause,
+) -> Taken {
+    hold(&mut queue, free, packet, ERROR, 1);
+    let Sent { notify, changes, .. } = release(&mut queue, page);
+    let (slots, place) = (packet.slots() as u32, place as u32);
+    let report = Report { answer: SPOILED, cause, place, slots, notify, ..Report::default() };
+    Outcome { report, queue, changes }
+}
+
+/// Puts the packet at the counter into a free record, and moves the counter past it.
+fn hold(queue: &mut TransmitQueue, free: usize, packet: &Packet, status: i16, finished: u32) {
+    let (slots, extras) = (packet.slots() as u32, packet.extras.len() as u32);
+    queue.list[free] = Held { ticket: queue.consumed as u32, slots, extras, status: status.into(), finished };
+    queue.consumed = plus(queue.consumed, slots.into());
 }
 
 /// Reads the slots of a packet.
@@ -119,20 +168,17 @@ fn causes(packet: &Packet, lent: &Lent) -> Vec<Cause> {
     found
 }
 
-/// Whether cause 6 lets a gso size and type pass.
-pub fn gso_passes(size: u64, kind: u64) -> bool {
-    size != 0 && (1..=2).contains(&kind)
-}
-
-fn done_report(packet: &Packet) -> Report {
+fn done_report(packet: &Packet, ticket: u64) -> Report {
     let gso = packet.extras.last();
     Report {
         answer: DONE,
+        slots: packet.slots() as u32,
         total: packet.first.size as u32,
         checksum_blank: packet.first.checksum_blank,
         data_validated: packet.first.data_validated,
         gso_size: gso.map_or(0, |extra| extra.gso_size as u32),
         gso_type: gso.map_or(0, |extra| extra.gso_type as u32),
+        ticket: ticket as u32,
         ..Report::default()
     }
 }
@@ -145,12 +191,4 @@ fn joined(packet: &Packet, lent: &Lent) -> Vec<u8> {
         &lent.window[at..at + piece.part as usize]
     };
     pieces(packet).into_iter().map(part).collect::<Vec<_>>().concat()
-}
-
-/// A reply for each slot in order: each data slot's id with the status, each extra's 0 with null.
-fn replies(packet: &Packet, status: i16) -> Vec<Vec<u8>> {
-    let first = [transmit_reply(packet.first.id, status)];
-    let extras = packet.extras.iter().map(|_| transmit_reply(0, NULL));
-    let later = packet.later.iter().map(|slot| transmit_reply(slot.id, status));
-    first.into_iter().chain(extras).chain(later).collect()
 }

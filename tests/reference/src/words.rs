@@ -9,7 +9,8 @@ pub fn number(bytes: &[u8], at: usize, width: usize) -> u64 {
     bytes.iter().rev().fold(0, |n, &byte| n * 256 + u64::from(byte))
 }
 
-/// Whether bit `k` of `n` is set.
+/// Whether bit `k` of `n` is set. In line, the division is a shift.
+#[inline]
 pub fn bit(n: u64, k: u32) -> bool {
     n / 2_u64.pow(k) % 2 == 1
 }

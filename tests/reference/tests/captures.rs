@@ -6,9 +6,9 @@
 
 mod sha256;
 
-use reference::calls::Ring;
+use reference::calls::{transmit_finish, transmit_take, Ring};
 use reference::captures::{folders, load};
-use reference::replay::calls;
+use reference::replay::{calls, fnv1a};
 use reference::report::{DONE, EMPTY, NO_BUFFERS};
 use sha256::hex_digest;
 use std::collections::HashSet;
@@ -85,7 +85,7 @@ fn transmitted_frames_are_the_guests() {
         let handed_over = &calls[..calls.len() - 1];
         assert_eq!(handed_over.len(), frames.len(), "{}: packets handed over", stored.name);
         for ((call, expected), slots) in handed_over.iter().zip(frames).zip(&counts) {
-            let [answer, .., gso_size, gso_type] = call.words;
+            let [answer, .., gso_size, gso_type, _ticket] = call.words;
             assert_eq!(answer, DONE, "{}", stored.name);
             assert_eq!(call.words[3] as usize, *slots, "{}", stored.name);
             let (length, digest) = (call.frame.len(), hex_digest(&call.frame));
@@ -109,6 +109,44 @@ fn nothing_is_left_on_a_ring() {
         seen.insert(last);
     }
     assert_eq!(seen, HashSet::from([EMPTY, NO_BUFFERS]));
+}
+
+/// Packets all taken before the last of them is finished, and then the one before it, leave the ring page as packets do
+/// that are finished at once.
+#[test]
+fn packets_finished_in_reverse_order_leave_the_same_page() {
+    let mut most = 0;
+    for folder in snapshots() {
+        let mut stored = load(&folder).expect("a snapshot");
+        if stored.ring == Ring::Receive {
+            continue;
+        }
+        let at_once = calls(&stored).last().expect("a call").page;
+        let (mut consumed, mut replied, mut halted) = (stored.consumed, stored.consumed, 0);
+        let (mut held, mut frame, mut tickets) = (vec![[0; 5]; 256], vec![0; 65_535], Vec::new());
+        loop {
+            let numbers = [&mut consumed, &mut replied, &mut halted];
+            let words = transmit_take(
+                numbers,
+                &mut stored.page,
+                &stored.grants,
+                &stored.window,
+                &mut held,
+                &mut frame,
+            );
+            if words[0] != DONE {
+                break;
+            }
+            tickets.push(words[10]);
+        }
+        most = most.max(tickets.len());
+        for (left, ticket) in tickets.into_iter().enumerate().rev() {
+            let words = transmit_finish(consumed, &mut replied, &mut stored.page, &mut held, ticket, 0);
+            assert_eq!((words[0], words[3] > 0), (DONE, left == 0), "{}", stored.name);
+        }
+        assert_eq!((replied, fnv1a(&stored.page)), (consumed, at_once), "{}", stored.name);
+    }
+    assert!(most > 100, "at most {most} packets were held");
 }
 
 /// Real TCP sends 18 data slots and an extra. The snapshots show it.

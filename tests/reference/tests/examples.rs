@@ -2,9 +2,10 @@
 
 #![deny(warnings)]
 
-use reference::calls::{receive_put, transmit_take, Words};
+use reference::calls::{receive_put, transmit_finish, transmit_take, Words};
 use reference::grammar::{begins_packet, division, front, Front};
 use reference::grants::whole_page_bytes;
+use reference::held::HeldWords;
 use reference::replay::fnv1a;
 use reference::slots::{data, extra, Slot};
 use reference::words::number;
@@ -18,13 +19,15 @@ const UNFIT: [u32; 3] = [7, 4, 1];
 const OUTSIDE: [u32; 3] = [7, 5, 1];
 
 /// What a call is lent: a ring with a window of four pages, page p full of the byte p + 1; reference g names the whole
-/// of page g, all writable but 3.
+/// of page g, all writable but 3. All of 16 records are free.
 struct Lent {
     consumed: u32,
+    replied: u32,
     halted: u32,
     page: Vec<u8>,
     grants: Vec<u8>,
     window: Vec<u8>,
+    held: Vec<HeldWords>,
     frame: Vec<u8>,
 }
 
@@ -35,7 +38,8 @@ impl Lent {
         page[8..12].copy_from_slice(&consumed.to_le_bytes());
         let grants = [0x03, 0x07, 0x0B, 0x0D].into_iter().flat_map(whole_page_bytes).collect();
         let window = (0..4 * 4096).map(|i| (i / 4096 + 1) as u8).collect();
-        Lent { consumed, halted: 0, page, grants, window, frame: vec![0xEE; 65_535] }
+        let (held, frame) = (vec![[0; 5]; 16], vec![0xEE; 65_535]);
+        Lent { consumed, replied: consumed, halted: 0, page, grants, window, held, frame }
     }
 
     fn with_slots(consumed: u32, slots: &[Slot]) -> Lent {
@@ -64,8 +68,14 @@ impl Lent {
     }
 
     fn take(&mut self) -> Words {
-        let Lent { consumed, halted, page, grants, window, frame } = self;
-        transmit_take(consumed, halted, page, grants, window, frame)
+        let Lent { consumed, replied, halted, page, grants, window, held, frame } = self;
+        transmit_take([consumed, replied, halted], page, grants, window, held, frame)
+    }
+
+    /// Finishes a ticket with okay.
+    fn finish(&mut self, ticket: u32) -> Words {
+        let Lent { consumed, replied, page, held, .. } = self;
+        transmit_finish(*consumed, replied, page, held, ticket, 0)
     }
 
     fn put(&mut self, length: usize) -> Words {
@@ -112,12 +122,14 @@ fn one_slot_is_read_and_replied_to() {
     let read = data(&bytes);
     assert_eq!((read.gref, read.offset, read.id, read.size), (3, 100, 7, 60));
     let mut good = Lent::with_slots(0, &[bytes]);
-    assert_eq!(good.take(), [0, 0, 0, 1, 0, 60, 0, 0, 0, 0]);
+    assert_eq!(good.take(), [0, 0, 0, 1, 0, 60, 0, 0, 0, 0, 0]);
+    assert_eq!(good.page[64..76], bytes);
+    assert_eq!(good.finish(0), [0, 0, 0, 1, 0, 0, 0, 0, 0, 0, 0]);
     assert_eq!(good.page[64..68], [7, 0, 0, 0]);
     assert_eq!(good.page[68..76], bytes[4..]);
     assert_eq!(good.frame[..61], [[4; 60].as_slice(), &[0xEE]].concat());
     let mut unfit = Lent::with_slots(0, &[slot(4, 100, 0, 7, 60)]);
-    assert_eq!(unfit.take(), [7, 4, 0, 1, 0, 0, 0, 0, 0, 0]);
+    assert_eq!(unfit.take(), [7, 4, 0, 1, 0, 0, 0, 0, 0, 0, 0]);
     assert_eq!(unfit.page[64..68], [7, 0, 0xFF, 0xFF]);
 }
 
@@ -247,7 +259,9 @@ fn notify_from_250_to_253() {
     for (rsp_event, notify) in [(250_u32, 0), (251, 1), (253, 1), (254, 0)] {
         let mut lent = Lent::with_slots(250, &sized(&[(60, MORE), (1, MORE), (1, 0)]));
         lent.page[12..16].copy_from_slice(&rsp_event.to_le_bytes());
-        assert_eq!(lent.take()[3..5], [3, notify], "rsp_event {rsp_event}");
+        assert_eq!(lent.take()[3..5], [3, 0], "rsp_event {rsp_event}");
+        assert_eq!(number(&lent.page, 8, 4), 250);
+        assert_eq!(lent.finish(250)[3..5], [3, notify], "rsp_event {rsp_event}");
         assert_eq!(number(&lent.page, 8, 4), 253);
     }
 }
@@ -257,7 +271,8 @@ fn an_extra_asks_for_gso() {
     let read = extra(&gso(1, 0));
     assert_eq!((read.gso_size, read.gso_type), (1460, 1));
     let mut lent = Lent::with_slots(0, &[slot(0, 0, EXTRA | 3, 5, 60), gso(1, 0)]);
-    assert_eq!(lent.take(), [0, 0, 0, 2, 0, 60, 1, 1, 1460, 1]);
+    assert_eq!(lent.take(), [0, 0, 0, 2, 0, 60, 1, 1, 1460, 1, 0]);
+    assert_eq!(lent.finish(0)[3], 2);
     assert_eq!(lent.page[76..80], [0, 0, 1, 0]);
     for kind in [0, 2] {
         assert_eq!(front(&[slot(0, 0, EXTRA, 5, 60), gso(kind, 0)]), Front::Misshapen);
@@ -313,7 +328,7 @@ fn a_run_is_divided_into_packets_and_a_rest() {
 #[test]
 fn receive_replies_and_pieces() {
     let mut one = Lent::with_requests(&[(9, 0)]);
-    assert_eq!(one.put(4096), [0, 0, 0, 1, 0, 4096, 0, 0, 0, 0]);
+    assert_eq!(one.put(4096), [0, 0, 0, 1, 0, 4096, 0, 0, 0, 0, 0]);
     assert_eq!(one.page[64..72], [9, 0, 0, 0, 0, 0, 0, 0x10]);
     let mut two = Lent::with_requests(&[(9, 0), (10, 2)]);
     assert_eq!(two.put(4097)[..4], [0, 0, 0, 2]);
@@ -373,7 +388,7 @@ fn no_room_changes_nothing_and_spoiled_goes_before() {
     let mut short = Lent::with_slots(0, &sized(&[(60, 0)]));
     short.frame.truncate(59);
     let before = short.page.clone();
-    assert_eq!(short.take(), [8, 0, 0, 0, 0, 0, 0, 0, 0, 0]);
+    assert_eq!(short.take(), [8, 0, 0, 0, 0, 0, 0, 0, 0, 0, 0]);
     assert_eq!((short.page, short.consumed), (before, 0));
     let mut spoiled = Lent::with_slots(0, &[slot(4, 0, 0, 7, 60)]);
     spoiled.frame.clear();

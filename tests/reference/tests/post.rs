@@ -2,7 +2,7 @@
 
 #![deny(warnings)]
 
-use reference::calls::{transmit_post, transmit_take, Words};
+use reference::calls::{transmit_finish, transmit_post, transmit_take, Words};
 use reference::grants::{whole_page_bytes, word_bytes};
 use reference::slots::{data, data_bytes, extra, extra_bytes, Data, Extra, Slot};
 use reference::words::number;
@@ -70,17 +70,24 @@ impl Lent {
         let (page, window) = (self.page.clone(), self.window.clone());
         let words = self.post();
         if words[0] != DONE {
-            assert_eq!(words[1..], [0; 9]);
+            assert_eq!(words[1..], [0; 10]);
             assert!(self.page == page && self.window == window, "a refusal changed something");
         }
         words[0]
     }
 
-    /// Takes the packet at the counter, and gives the report and the frame.
+    /// Takes the packet at the counter, up to which all is replied to, and finishes it at once where it is done. Gives
+    /// the report and the frame.
     fn take(&mut self, consumed: &mut u32) -> (Words, Vec<u8>) {
         let Lent { page, grants, window, .. } = self;
-        let (mut halted, mut frame) = (0, vec![0xEE; 65_535]);
-        let words = transmit_take(consumed, &mut halted, page, grants, window, &mut frame);
+        let (mut replied, mut halted, mut held) = (*consumed, 0, [[0; 5]]);
+        let mut frame = vec![0xEE; 65_535];
+        let numbers = [&mut *consumed, &mut replied, &mut halted];
+        let words = transmit_take(numbers, page, grants, window, &mut held, &mut frame);
+        if words[0] == DONE {
+            transmit_finish(*consumed, &mut replied, page, &mut held, words[10], 0);
+        }
+        assert_eq!((replied, held), (*consumed, [[0; 5]]));
         frame.truncate(words[5] as usize);
         (words, frame)
     }
@@ -104,7 +111,7 @@ impl Lent {
 #[test]
 fn a_frame_of_one_page() {
     let mut lent = Lent::new(7, 60);
-    assert_eq!(lent.post(), [0, 0, 0, 1, 0, 0, 0, 0, 0, 0]);
+    assert_eq!(lent.post(), [0, 0, 0, 1, 0, 0, 0, 0, 0, 0, 0]);
     assert_eq!(lent.slot(7), [FIT as u8, 0, 0, 0, 0, 0, 0, 0, 7, 0, 60, 0]);
     assert_eq!(number(&lent.page, 0, 4), 8);
     assert_eq!(lent.window[..60], lent.frame);
@@ -272,7 +279,7 @@ fn what_is_posted_is_taken_back() {
             let (words, frame) = lent.take(&mut { first });
             let (size, kind) = if gso.0 == 0 { (0, 0) } else { (gso.1.into(), gso.2.into()) };
             assert_eq!(words[..4], [0, 0, 0, slots]);
-            assert_eq!(words[5..], [length as u32, 0, 0, size, kind]);
+            assert_eq!(words[5..], [length as u32, 0, 0, size, kind, first]);
             assert!(frame == lent.frame, "{length} bytes");
         }
     }

@@ -7,15 +7,16 @@ use lib.ListN.{length}
 use borrow.Author.Needs.{needs}
 use Rattle.netif.specs.Slot.{Slot, transmitSlot}
 use Rattle.grammar.specs.declared.Outline.{Outline}
-use Rattle.answer.specs.Report.{goOn}
-use Rattle.answer.specs.declared.Queue.{Queue}
-use Rattle.answer.specs.declared.Verdict.the-variants.{Good}
-use Rattle.packet.specs.Judge.{ownPart, judgeSizes}
+use Rattle.answer.specs.declared.Verdict.the-variants.{Good, Bad}
+use Rattle.packet.specs.Judge.{ownPart, judgeSizes, judge}
 use Rattle.packet.specs.Stages.{slotPart, Ready}
 use Rattle.packet.proofs.Plans.{slot-bad, slot-at}
-use Rattle.transmit.specs.Stages.{packetOne, aloneOutline}
+use Rattle.held.specs.declared.Held.{Held}
+use Rattle.transmit.specs.declared.Queue.{Queue}
+use Rattle.transmit.specs.Take.{goOn, takePacket}
+use Rattle.transmit.specs.Stages.{takeWhole, packetOne, aloneOutline}
 use Rattle.transmit.proofs.Alone.{alone-ready, offset-is, own-is, alone-short, alone-bad, alone-good}
-use Rattle.transmit.proofs.Settling.{slot-inside, packet-spoiled}
+use Rattle.transmit.proofs.Settling.{slot-inside}
 use Rattle.alone.proofs.settle_alone.Statement.{statement}
 use Rattle.alone.proofs.settle_alone.Tie as tie
 
@@ -26,7 +27,7 @@ module _ (d : tie.After-at) where
   start = d .before .before .before .before .before .before
 
   abbrev q : Queue
-  q = goOn (start .args .first)
+  q = goOn (start .args .first) (start .args .replied)
 
   abbrev table : List ℕ
   table = start .args .grants .now
@@ -49,6 +50,11 @@ module _ (d : tie.After-at) where
   -- the packet of this slot is ready, whichever way it is refused
   ready : (o : Outline) → o ≡ aloneOutline (d .at .result) → (length page ≡ 4096) × Ready page (q .consumed) o
   ready o is = (start .pre, rw is (alone-ready page (q .consumed) (d .at .result) (d .at .ensures)))
+
+  -- it is bad
+  spoils : (cause place : ℕ) → judge table window 0 p ≡ Bad cause place → (l : List Held)
+      → takeWhole table window q page frame l 0 p ≡ takePacket table window q page frame l 0 p (Bad cause place)
+  spoils cause place bad l = ap (takePacket table window q page frame l 0 p) bad
 
 -- ---- where its part was judged
 
@@ -101,13 +107,11 @@ enum-known-page c = search needs
 
 accept-alone-requires : tie.Need-accept-alone-requires
 accept-alone-requires c κs =
-    let l = c .before .before .before .before .before in
+    let l = c .before .before .before .before in
     let d = here l in
-    let w = c .before .before .before .page .given in
+    let w = c .before .before .page .given in
     let at = slot-at (table d) (window d) 0 (slot d) (ownPart 0 (p d)) (w .0 .0) (sym (w .1) ∙ found l) in
     let inside = slot-inside (table d) (window d) 0 (slot d) (ownPart 0 (p d)) (at .0) in (
-      start d .pre,
-      d .at .ensures,
       omega (arith, ap (λ x. 4096 * x + 4096) (at .1), inside .0),
       omega (arith, offset-is (page d) (q d .consumed) (d .at .result) (d .at .ensures), own-is (page d) (q d .consumed) (d .at .result) (d .at .ensures), inside .1),
     )
@@ -116,22 +120,22 @@ same-length : tie.Need-same-length
 same-length c = search needs
 
 returns : tie.Need-returns
-returns c =
+returns c l lent =
     let d = c .before .before .before .before .before .before .before .before .before in
     let short = alone-short (page d) (q d .consumed) (d .at .result) (d .at .ensures) (table d) (window d) _ _ (sym (c .before .before .before .before .before .before .before .before .judge-sizes .ensures) ∙ c .before .before .before .before .before .before .cause .given .1) in
-    rw (packet-spoiled (table d) (window d) (q d) (page d) (frame d) 0 (p d) _ _ short)
-    (rw (c .before .before .before .before .outline-of .ensures) at (c .before .before .refuse .ensures (frame d)))
+    rw (spoils d _ _ short l)
+    ((rw (c .before .before .before .before .outline-of .ensures) at (c .before .before .refuse .ensures)) (table d) (window d) (frame d) l lent)
 
 same-length-2 : tie.Need-same-length-2
 same-length-2 c = search needs
 
 returns-2 : tie.Need-returns-2
-returns-2 c =
+returns-2 c k lent =
     let l = c .before .before .before .before .before .before .before .before in
     let d = here l in
     let bad = slot-bad (table d) (window d) 0 (slot d) (ownPart 0 (p d)) _ _ (sym (c .before .before .before .before .before .before .cause2 .given .1) ∙ found l) in
-    rw (packet-spoiled (table d) (window d) (q d) (page d) (frame d) 0 (p d) _ _ (alone-bad (page d) (q d .consumed) (d .at .result) (d .at .ensures) (table d) (window d) (right l) _ _ bad))
-    (rw (c .before .before .before .before .outline-of2 .ensures) at (c .before .before .refuse2 .ensures (frame d)))
+    rw (spoils d _ _ (alone-bad (page d) (q d .consumed) (d .at .result) (d .at .ensures) (table d) (window d) (right l) _ _ bad) k)
+    ((rw (c .before .before .before .before .outline-of2 .ensures) at (c .before .before .refuse2 .ensures)) (table d) (window d) (frame d) k lent)
 
 same-length-3 : tie.Need-same-length-3
 same-length-3 c = search needs
@@ -140,12 +144,13 @@ same-length-4 : tie.Need-same-length-4
 same-length-4 c = search needs
 
 returns-3 : tie.Need-returns-3
-returns-3 c =
-    let l = c .before .before .before .before .before .before .before .before .before .before in
+returns-3 c k lent =
+    let l = c .before .before .before .before .before .before .before in
     let d = here l in
-    let w = c .before .before .before .before .before .before .before .before .page .given in
+    let w = c .before .before .before .before .before .page .given in
     let at = slot-at (table d) (window d) 0 (slot d) (ownPart 0 (p d)) (w .0 .0) (sym (w .1) ∙ found l) in
-    c .before .before .before .before .accept-alone .ensures (table d) (alone-good (page d) (q d .consumed) (d .at .result) (d .at .ensures) (table d) (window d) (right l) (at .0)) (at .1)
+    c .before .before .accept-alone .ensures (table d) (page d) (q d .consumed) (q d .replied) k lent (d .at .ensures)
+    (alone-good (page d) (q d .consumed) (d .at .result) (d .at .ensures) (table d) (window d) (right l) (at .0)) (at .1)
 
 pub settle-alone-spec : {M : Type 1} → statement M
 settle-alone-spec =

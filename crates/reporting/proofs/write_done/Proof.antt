@@ -1,4 +1,4 @@
--- `write_done` meets its contract: the ten words in their order, each flag as its word.
+-- `write_done` meets its contract: the eleven words in their order, each flag as its word.
 use mathlib.Core.Path.{refl}
 use mathlib.Core.List.{[], _∷_}
 use Rattle.answer.specs.Words.{reportWords}
@@ -27,7 +27,7 @@ returns c =
     let blank = c .before .before .before .before in
     let notified = blank .before in
     let s = notified .before .args .s in
-    (refl, λ i. 0 ∷ 0 ∷ 0 ∷ s .slots ∷ notified .word .ensures i ∷ s .total ∷ blank .word2 .ensures i ∷ c .before .before .before .word3 .ensures i ∷ s .«gso_size» ∷ s .«gso_type» ∷ [])
+    (refl, λ i. 0 ∷ 0 ∷ 0 ∷ s .slots ∷ notified .word .ensures i ∷ s .total ∷ blank .word2 .ensures i ∷ c .before .before .before .word3 .ensures i ∷ s .«gso_size» ∷ s .«gso_type» ∷ 0 ∷ [])
 
 pub write-done-spec : {M : Type 1} → statement M
 write-done-spec =

@@ -1,4 +1,4 @@
--- `write_number` meets its contract: the number, and nine words that are 0.
+-- `write_number` meets its contract: the number, and ten words that are 0.
 use mathlib.Core.Path.{refl}
 use Rattle.answer.specs.Words.{reportWords}
 use Rattle.reporting.proofs.write_number.Statement.{statement}

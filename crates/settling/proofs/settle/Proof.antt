@@ -2,6 +2,7 @@
 -- buffer.
 use mathlib.Core.Path.{_≡_, refl, sym, ap, _∙_}
 use mathlib.Core.List.{List}
+use mathlib.Core.Bool.{false}
 use Prim.Native.Nat.{ℕ, _-_, _≤_}
 use native.Mathlib.Omega.{arith}
 use lib.ListN.{length, take}
@@ -9,16 +10,18 @@ use borrow.Author.Needs.{needs}
 use Rattle.words.specs.Word.{splice}
 use Rattle.netif.specs.Slot.{Slot}
 use Rattle.grammar.specs.declared.Outline.{Outline}
-use Rattle.answer.specs.Report.{goOn}
-use Rattle.answer.specs.declared.Queue.{Queue}
-use Rattle.answer.specs.declared.Answer.the-variants.{NoRoom}
-use Rattle.answer.specs.declared.Verdict.the-variants.{Good}
-use Rattle.answer.proofs.Ends.{gives-refusal}
+use Rattle.answer.specs.declared.Verdict.the-variants.{Good, Bad}
 use Rattle.packet.specs.Judge.{totalOf, judge, frameOf}
 use Rattle.packet.specs.Stages.{joined, InWindow, datasOf, packetAt}
 use Rattle.packet.proofs.Judge.{frame-length}
 use Rattle.packet.proofs.Plans.{total-of, datas-count}
-use Rattle.transmit.proofs.Settling.{plan-long, plan-inside, plan-joined, packet-spoiled, packet-no-room, packet-done}
+use Rattle.held.specs.declared.Held.{Held}
+use Rattle.held.specs.Records.{full}
+use Rattle.transmit.specs.declared.Queue.{Queue}
+use Rattle.transmit.specs.declared.Answer.the-variants.{NoRoom, NoRecord}
+use Rattle.transmit.specs.Take.{goOn, takePacket}
+use Rattle.transmit.specs.Stages.{takeWhole}
+use Rattle.transmit.proofs.Settling.{plan-long, plan-inside, plan-joined, gives-refusal, gives-done, packet-no-room, packet-no-record, packet-done}
 use Rattle.settling.proofs.settle.Statement.{statement}
 use Rattle.settling.proofs.settle.Tie as tie
 
@@ -29,7 +32,7 @@ module _ (j : tie.After-judge) where
   start = j .before .before .before .before .before .before .before .before .before .before
 
   abbrev q : Queue
-  q = goOn (start .args .first)
+  q = goOn (start .args .first) (start .args .replied)
 
   abbrev table : List ℕ
   table = start .args .grants .now
@@ -67,6 +70,11 @@ module _ (j : tie.After-judge) where
   abbrev sizes : List ℕ
   sizes = j .judge .last .1 .1 .1 .0
 
+  -- it is bad
+  spoils : (cause place : ℕ) → j .judge .result ≡ Bad cause place → (l : List Held)
+      → takeWhole table window q page frame l e p ≡ takePacket table window q page frame l e p (Bad cause place)
+  spoils cause place told l = ap (takePacket table window q page frame l e p) (sym (j .judge .ensures .verdict) ∙ told)
+
   -- its plan, if it is good
   module _ (told : j .judge .result ≡ Good) where
     good : judge table window e p ≡ Good
@@ -98,17 +106,23 @@ enum-told c = search needs
 cast-if1 : tie.Need-cast-if1
 cast-if1 c = search needs
 
-stay-requires : tie.Need-stay-requires
-stay-requires c κs = search needs
-
 same-length : tie.Need-same-length
 same-length c = search needs
 
 returns : tie.Need-returns
-returns c =
+returns c l lent =
+    let j = c .before .before .before .before in
+    rw (packet-no-room (table j) (window j) (q j) (page j) (frame j) l (e j) (p j) (good j (c .before .before .enum-told .given .1)) (omega (arith, total j, c .if1 .taken)))
+    (gives-refusal 8 (q j) (page j) (frame j) l NoRoom refl refl refl)
+
+same-length-2 : tie.Need-same-length-2
+same-length-2 c = search needs
+
+returns-2 : tie.Need-returns-2
+returns-2 c l lent =
     let j = c .before .before .before .before .before in
-    rw (packet-no-room (table j) (window j) (q j) (page j) (frame j) (e j) (p j) (good j (c .before .before .before .enum-told .given .1)) (omega (arith, total j, c .before .if1 .taken)), c .stay .ensures)
-    (gives-refusal 8 (q j) (page j) (frame j) NoRoom refl)
+    rw (packet-no-record (table j) (window j) (q j) (page j) (frame j) l (e j) (p j) (good j (c .before .before .before .enum-told .given .1)) (omega (arith, total j, c .before .if1 .left)) (lent .fullness ∙ c .if2 .taken))
+    (gives-refusal 14 (q j) (page j) (frame j) l NoRecord refl refl refl)
 
 sub-count : tie.Need-sub-count
 sub-count c = search needs
@@ -118,40 +132,42 @@ cast-count c = search needs
 
 gather-requires : tie.Need-gather-requires
 gather-requires c κs =
-    let j = c .before .before .before .before .before .before .before .before .before in
-    let told = c .before .before .before .before .before .before .before .enum-told .given .1 in (
+    let j = c .before .before .before .before .before .before .before .before .before .before in
+    let told = c .before .before .before .before .before .before .before .before .enum-told .given .1 in (
       omega (arith, start j .pre .1 .some, start j .pre .1 .datas),
       long j told .0,
       long j told .1,
       long j told .2,
       inside j told,
-      omega (arith, ap length (is-frame j told), frame-length (table j) (window j) (e j) (p j) (good j told), total j, c .before .before .before .before .before .if1 .left),
+      omega (arith, ap length (is-frame j told), frame-length (table j) (window j) (e j) (p j) (good j told), total j, c .before .before .before .before .before .before .if1 .left),
     )
 
 accept-requires : tie.Need-accept-requires
-accept-requires c κs = (start (c .before .before .before .before .before .before .before .before .before .before .before .before .before) .pre .0, start (c .before .before .before .before .before .before .before .before .before .before .before .before .before) .pre .1)
-
-same-length-2 : tie.Need-same-length-2
-same-length-2 c = search needs
-
-returns-2 : tie.Need-returns-2
-returns-2 c =
-    let j = c .before .before .before .before .before .before .before in
-    rw (packet-spoiled (table j) (window j) (q j) (page j) (frame j) (e j) (p j) _ _ (sym (j .judge .ensures .verdict) ∙ c .before .before .before .before .before .cause .given .1)) (c .before .before .refuse .ensures (frame j))
+accept-requires c κs = search needs
 
 same-length-3 : tie.Need-same-length-3
 same-length-3 c = search needs
 
+returns-3 : tie.Need-returns-3
+returns-3 c l lent =
+    let j = c .before .before .before .before .before .before .before in
+    rw (spoils j _ _ (c .before .before .before .before .before .cause .given .1) l)
+    (c .before .before .refuse .ensures (table j) (window j) (frame j) l lent)
+
 same-length-4 : tie.Need-same-length-4
 same-length-4 c = search needs
 
-returns-3 : tie.Need-returns-3
-returns-3 c =
-    let j = c .before .before .before .before .before .before .before .before .before .before .before .before .before .before .before .before in
-    let told = c .before .before .before .before .before .before .before .before .before .before .before .before .before .before .enum-told .given .1 in
-    let written = c .before .before .before .before .before .before .gather .ensures ∙ ap (splice (frame j) 0) (is-frame j told) in
-    rw (packet-done (table j) (window j) (q j) (page j) (frame j) (e j) (p j) (good j told) (omega (arith, total j, c .before .before .before .before .before .before .before .before .before .before .before .before .if1 .left)), written)
-    (c .before .before .accept .ensures (table j) (window j) (frame j))
+same-length-5 : tie.Need-same-length-5
+same-length-5 c = search needs
+
+returns-4 : tie.Need-returns-4
+returns-4 c l lent =
+    let j = c .before .before .before .before .before .before .before .before .before .before .before .before .before .before in
+    let told = c .before .before .before .before .before .before .before .before .before .before .before .before .enum-told .given .1 in
+    let room : full l ≡ false = lent .fullness ∙ c .before .before .before .before .before .before .before .before .before .if2 .left in
+    let written = c .before .before .before .gather .ensures ∙ ap (splice (frame j) 0) (is-frame j told) in
+    rw (packet-done (table j) (window j) (q j) (page j) (frame j) l (e j) (p j) (good j told) (omega (arith, total j, c .before .before .before .before .before .before .before .before .before .before .if1 .left)) room, written)
+    (gives-done (table j) (window j) (page j) (frame j) (q j .consumed) (q j .replied) l (e j) (p j) _ (c .accept .ensures (p j) (start j .pre .1 .outline)) (record { sound = lent .sound; fullness = room }))
 
 pub settle-spec : {M : Type 1} → statement M
 settle-spec =
@@ -162,15 +178,16 @@ settle-spec =
     refuse-requires
     enum-told
     cast-if1
-    stay-requires
     same-length
     returns
+    same-length-2
+    returns-2
     sub-count
     cast-count
     gather-requires
     accept-requires
-    same-length-2
-    returns-2
     same-length-3
+    returns-3
     same-length-4
-    returns-3)
+    same-length-5
+    returns-4)

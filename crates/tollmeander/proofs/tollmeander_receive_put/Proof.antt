@@ -14,8 +14,8 @@ put-requires c κs = search needs
 mark-after-requires : tie.Need-mark-after-requires
 mark-after-requires c κs = search needs
 
-write-requires : tie.Need-write-requires
-write-requires c κs = search needs
+write-put-requires : tie.Need-write-put-requires
+write-put-requires c κs = search needs
 
 same-length : tie.Need-same-length
 same-length c = search needs
@@ -28,7 +28,7 @@ returns c =
     let t = c .before .before .before .before .before .before .before .before in
     let q = t .before .before .before in
     leaves-words _ (t .put .result) _ _ (q .before .before .before .before .before .before .before .args .halted .now) _
-    (rw (q .queue-of .ensures) at (t .put .ensures)) (c .write .ensures) refl (c .before .before .mark-after .ensures) refl refl
+    (rw (q .queue-of .ensures) at (t .put .ensures)) (c .write-put .ensures) refl (c .before .before .mark-after .ensures) refl refl
 
 pub tollmeander-receive-put-spec : {M : Type 1} → statement M
 tollmeander-receive-put-spec =
@@ -37,7 +37,7 @@ tollmeander-receive-put-spec =
     queue-of-requires
     put-requires
     mark-after-requires
-    write-requires
+    write-put-requires
     same-length
     same-length-2
     returns)

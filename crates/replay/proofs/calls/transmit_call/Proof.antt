@@ -1,4 +1,4 @@
--- `replay::calls::transmit_call` meets its contract: the exported call leaves what it promises, and its answer says whether it took something.
+-- `replay::calls::transmit_call` meets its contract: the calls leave what they promise, and the answer says whether something was taken.
 use borrow.Author.Needs.{needs}
 use Rattle.replay.proofs.Calling.{transmit-called}
 use Rattle.replay.proofs.calls.transmit_call.Statement.{statement}
@@ -10,11 +10,11 @@ slice-aggregate-begin c = search needs
 begin-requires : tie.Need-begin-requires
 begin-requires c κs = search needs
 
-slice-aggregate-tollmeander-transmit-take : tie.Need-slice-aggregate-tollmeander-transmit-take
-slice-aggregate-tollmeander-transmit-take c = search needs
+slice-aggregate-take : tie.Need-slice-aggregate-take
+slice-aggregate-take c = search needs
 
-tollmeander-transmit-take-requires : tie.Need-tollmeander-transmit-take-requires
-tollmeander-transmit-take-requires c κs = search needs
+take-requires : tie.Need-take-requires
+take-requires c κs = search needs
 
 slice-aggregate-of-first : tie.Need-slice-aggregate-of-first
 slice-aggregate-of-first c = search needs
@@ -38,7 +38,7 @@ same-length : tie.Need-same-length
 same-length c = search needs
 
 returns : tie.Need-returns
-returns c = transmit-called (c .before .before .before .before .before .before .before .before .before .before .tollmeander-transmit-take .ensures) (c .took .ensures)
+returns c = transmit-called (c .before .before .before .before .before .before .before .before .before .before .before .take .ensures) (c .took .ensures)
 
 pub transmit-call-spec : {M : Type 1} → statement M
 transmit-call-spec =
@@ -46,8 +46,8 @@ transmit-call-spec =
     (tie.spec
     slice-aggregate-begin
     begin-requires
-    slice-aggregate-tollmeander-transmit-take
-    tollmeander-transmit-take-requires
+    slice-aggregate-take
+    take-requires
     slice-aggregate-of-first
     array-read-of-first
     of-first-requires

@@ -1,0 +1,3 @@
+-- The contract as the walk takes it, and the laws.
+pub mod Contracts
+pub mod Lent

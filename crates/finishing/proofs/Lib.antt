@@ -1,0 +1,4 @@
+-- The laws of the definitions.
+pub mod Answers
+pub mod Element
+pub mod Contracts

@@ -1,0 +1,1 @@
+// What holds of every sequence of takes and finishes on a transmit ring: definitions and laws.

@@ -1,0 +1,2 @@
+-- The laws of the definition.
+pub mod Tickets

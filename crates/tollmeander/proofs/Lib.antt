@@ -1,0 +1,3 @@
+-- What the walks of the exports take.
+pub mod Contracts
+pub mod Leaving
