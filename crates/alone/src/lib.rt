@@ -1,4 +1,6 @@
 // A packet of one slot, as most are: settled with no loop and no table.
+#![tactic(auto)]
+
 ghost use Rattle.std.specs.Prelude.{◌≡◌, List, ℕ, ◌+◌, ◌*◌, ◌≤◌, length};
 ghost use Rattle.ring.specs.Ring.{page_size};
 ghost use Rattle.netif.specs.Decode.{data_of};

@@ -1,4 +1,6 @@
 // What a call answers, what it leaves of a queue, and how it ends.
+#![tactic(auto)]
+
 ghost use Rattle.std.specs.Prelude.{◌≡◌, List, ℕ, length};
 ghost use Rattle.ring.specs.Ring.{page_size, asking};
 ghost use Rattle.answer.specs.Report.{halt, go_on, spoiled_report, done_report};
@@ -7,14 +9,14 @@ ghost use Rattle.answer.specs.Effect.{consume, Gives};
 use ring::Side;
 
 // A ring's counter of slots consumed, and its halted mark.
-#[derive(Drop)]
+#[derive(Clone, Copy)]
 pub struct Queue {
     pub consumed: u32,
     pub halted: bool,
 }
 
 // What a done call says of the packet or the frame that it served.
-#[derive(Drop)]
+#[derive(Clone, Copy)]
 pub struct Summary {
     pub slots: u32,
     pub total: u32,
@@ -25,7 +27,7 @@ pub struct Summary {
 }
 
 // What a call answers.
-#[derive(Drop)]
+#[derive(Clone, Copy)]
 pub enum Answer {
     Done {
         summary: Summary,
@@ -45,14 +47,14 @@ pub enum Answer {
 }
 
 // The answer of a call, and the queue as it leaves it.
-#[derive(Drop)]
+#[derive(Clone, Copy)]
 pub struct Outcome {
     pub answer: Answer,
     pub queue: Queue,
 }
 
 // Whether a packet or the requests for a frame are good, or the first cause found and its place.
-#[derive(Drop)]
+#[derive(Clone, Copy)]
 pub enum Verdict {
     Good,
     Bad { cause: u8, place: u32 },

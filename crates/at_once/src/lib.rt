@@ -1,4 +1,6 @@
 // A take whose packet is finished at once, for a host that holds no packet from call to call.
+#![tactic(auto)]
+
 ghost use Rattle.std.specs.Prelude.{◌≡◌, [], ◌∷◌, get_or};
 ghost use Rattle.held.specs.Records.{free};
 ghost use Rattle.at_once.specs.Call.{Called};

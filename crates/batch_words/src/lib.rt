@@ -1,4 +1,6 @@
 // The words of a batch: how many takes are asked for, and its own two words.
+#![tactic(auto)]
+
 ghost use Rattle.std.specs.Prelude.{◌≡◌, cond, ◌||◌, [], ◌∷◌, ltb};
 ghost use Rattle.batch.specs.Batch.{most_packets};
 

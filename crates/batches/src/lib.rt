@@ -1,1 +1,2 @@
 // Batches in sequences of takes and finishes: definitions and laws.
+#![tactic(auto)]

@@ -1,4 +1,6 @@
 // Many takes in one call, on a ring and its list of held packets. The list is looked over once.
+#![tactic(auto)]
+
 ghost use Rattle.std.specs.Prelude.{◌≡◌, true, ◌+◌, ◌≤◌, ◌<◌, length, drop};
 ghost use Rattle.held.specs.Records.{first_free};
 ghost use Rattle.batch.specs.Batch.{begun, batch};

@@ -1,4 +1,6 @@
 // The causes for 7, one by one: of the sizes, of a data slot, and of the gso fields.
+#![tactic(auto)]
+
 ghost use Rattle.std.specs.Prelude.{◌≡◌, ◌-◌};
 ghost use Rattle.packet.specs.Judge.{judge_sizes, judge_gso};
 ghost use Rattle.netif.specs.Slot.{Slot};

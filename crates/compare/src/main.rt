@@ -1,5 +1,7 @@
 // Runs both readers on the stored transmit ring pages that its arguments name and then on generated runs, and
 // prints a line for each page and for each setting of the generator. tests/reference/FORMAT.md describes the runs and the lines.
+#![tactic(auto)]
+
 mod generated;
 mod line;
 mod stored;

@@ -1,4 +1,6 @@
 // What a take comes to, by what was found of its list: the answer, the queue behind it and the record to keep.
+#![tactic(auto)]
+
 ghost use Rattle.std.specs.Prelude.{◌≡◌, List, cond, ℕ};
 ghost use Rattle.ring.specs.Ring.{wadd};
 ghost use Rattle.held.specs.declared.Held.{Held};
@@ -14,7 +16,7 @@ use transmit::{Answer, Queue};
 const ERROR: u32 = 4294967295;
 
 // What a take comes to: its answer, the queue that it leaves, and the words of the record that it takes, if it takes one.
-#[derive(Drop)]
+#[derive(Clone, Copy)]
 pub struct Taken {
     pub answer: Answer,
     pub queue: Queue,

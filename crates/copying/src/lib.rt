@@ -1,4 +1,6 @@
 // The copy of bytes, eight a pass.
+#![tactic(auto)]
+
 ghost use Rattle.std.specs.Prelude.{◌≡◌, ◌+◌, ◌*◌, ◌/◌, ◌≤◌, ◌<◌, length, take, drop};
 ghost use Rattle.words.specs.Word.{splice};
 

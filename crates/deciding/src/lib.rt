@@ -1,4 +1,6 @@
 // What a take makes of what stands at the counter: taken, waited for or refused.
+#![tactic(auto)]
+
 ghost use Rattle.std.specs.Prelude.{◌≡◌, ◌≤◌, true, List, length};
 ghost use Rattle.ring.specs.Ring.{page_size, posted};
 ghost use Rattle.held.specs.declared.Held.{Held};

@@ -1,4 +1,6 @@
 // The requests that a frame needs: judged, and then refused, or given the frame's pieces and replied to.
+#![tactic(auto)]
+
 ghost use Rattle.std.specs.Prelude.{◌≡◌, false, ◌≤◌, ℕ, List, length, take};
 ghost use Rattle.ring.specs.Ring.{page_size};
 ghost use Rattle.netif.specs.Slot.{receive_slots};

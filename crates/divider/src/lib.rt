@@ -1,4 +1,6 @@
 // Where the packet at the front of a transmit ring ends, and what is to be known of it.
+#![tactic(auto)]
+
 ghost use Rattle.std.specs.Prelude.{◌≡◌, ◌≤◌, length};
 ghost use Rattle.ring.specs.Ring.{page_size};
 ghost use Rattle.netif.specs.Slot.{transmit_slot, transmit_slots};

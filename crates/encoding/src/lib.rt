@@ -1,4 +1,6 @@
 // One slot of a packet, as it is written to the ring.
+#![tactic(auto)]
+
 ghost use Rattle.std.specs.Prelude.{◌≡◌, length};
 ghost use Rattle.words.specs.Word.{splice};
 ghost use Rattle.ring.specs.Ring.{page_size, slot_place};

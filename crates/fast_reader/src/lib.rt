@@ -1,4 +1,6 @@
 // The fast reader: the run is laid on a ring page, and the divider reads packet by packet off it.
+#![tactic(auto)]
+
 ghost use Rattle.std.specs.Prelude.{◌≡◌, ◌*◌, ◌≤◌, length};
 ghost use Rattle.words.specs.Word.{splice};
 ghost use Rattle.ring.specs.Ring.{page_size};

@@ -1,4 +1,6 @@
 // One finish: the host's word on a ticket. Replies leave in the order of taking, as far as finished packets reach.
+#![tactic(auto)]
+
 ghost use Rattle.std.specs.Prelude.{◌≡◌, ℕ, length};
 ghost use Rattle.ring.specs.Ring.{page_size};
 ghost use Rattle.held.specs.Valid.{between};
@@ -10,7 +12,7 @@ use held::Held;
 use ring::Side;
 
 // What a finish answers.
-#[derive(Drop)]
+#[derive(Clone, Copy)]
 pub enum Finished {
     Done { slots: u32, notify: bool },
     BadPage,

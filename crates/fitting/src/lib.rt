@@ -1,4 +1,6 @@
 // Whether a record may stand in a list of held packets, as far as it is looked at alone.
+#![tactic(auto)]
+
 ghost use Rattle.std.specs.Prelude.{◌≡◌};
 ghost use Rattle.held.specs.Records.{is_status};
 ghost use Rattle.held.specs.Valid.{is_count};

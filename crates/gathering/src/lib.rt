@@ -1,4 +1,6 @@
 // A packet's parts, copied from the window into the frame buffer as the tables say.
+#![tactic(auto)]
+
 ghost use Rattle.std.specs.Prelude.{◌≡◌, ◌+◌, ◌*◌, ◌≤◌, ◌<◌, length, take, get_or};
 ghost use Rattle.words.specs.Word.{splice};
 ghost use Rattle.grant.specs.Grant.{page_part};

@@ -1,5 +1,7 @@
 // A list of held packets looked over for a take: whether it is valid, and its first free record. Where no packet is held, as is common, no index
 // is needed.
+#![tactic(auto)]
+
 ghost use Rattle.std.specs.Prelude.{◌≡◌, not, ◌&&◌, leb};
 ghost use Rattle.held.specs.Records.{all_free};
 ghost use Rattle.held.specs.Valid.{most_records};

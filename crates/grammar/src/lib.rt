@@ -1,8 +1,10 @@
 // What the divider reads of a packet on a transmit ring. The functions are in `scanning` and `divider`.
+#![tactic(auto)]
+
 use netif::DataSlot;
 
 // How far the slots that were read make a packet.
-#[derive(Drop)]
+#[derive(Clone, Copy)]
 pub enum Shape {
     Whole,
     Beginning,
@@ -10,7 +12,7 @@ pub enum Shape {
 }
 
 // The extras of a packet: how many, and the last one's gso fields.
-#[derive(Drop)]
+#[derive(Clone, Copy)]
 pub struct Extras {
     pub shape: Shape,
     pub count: u32,
@@ -19,7 +21,7 @@ pub struct Extras {
 }
 
 // The later data slots of a packet: how many, and their sizes together.
-#[derive(Drop)]
+#[derive(Clone, Copy)]
 pub struct Later {
     pub shape: Shape,
     pub count: u32,
@@ -28,7 +30,7 @@ pub struct Later {
 
 // What is to be known of a whole packet: its first slot, its numbers of slots and of extras, the sizes of its later data slots
 // together, and the last extra's gso fields.
-#[derive(Drop)]
+#[derive(Clone, Copy)]
 pub struct Outline {
     pub head: DataSlot,
     pub slots: u32,
@@ -39,7 +41,7 @@ pub struct Outline {
 }
 
 // What stands at the front of the slots posted.
-#[derive(Drop)]
+#[derive(Clone, Copy)]
 pub enum Front {
     Whole(Outline),
     Beginning,

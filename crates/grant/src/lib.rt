@@ -1,4 +1,6 @@
 // Grant words, the pages of the guest's window, and the parts of them that slots name.
+#![tactic(auto)]
+
 ghost use Rattle.std.specs.Prelude.{◌≡◌, true, ◌+◌, ◌*◌, ◌≤◌, length};
 ghost use Rattle.grant.specs.Grant.{has_word, writable, range_start, range_length, range_end, whole_page, with_page};
 ghost use Rattle.grant.specs.Lookup.{read_page, write_page, source_of, LookedUp};
@@ -13,14 +15,14 @@ const LENGTH: usize = 6;
 const PAGE: usize = 4096;
 
 // The page that a reference names, or that its grant is not fit.
-#[derive(Drop)]
+#[derive(Clone, Copy)]
 pub enum Page {
     Fit(u32),
     Unfit,
 }
 
 // The page that a slot's part is read from, or that its grant is not fit, or that the part lies outside of the range granted.
-#[derive(Drop)]
+#[derive(Clone, Copy)]
 pub enum Source {
     At(u32),
     Unfit,

@@ -1,4 +1,6 @@
 // The inspection of a list of held packets: whether it is valid, its first free record, and an index of the records by their slots.
+#![tactic(auto)]
+
 ghost use Rattle.std.specs.Prelude.{◌≡◌, ◌≤◌, length, replicate};
 ghost use Rattle.noting.specs.Survey.{made, surveyed};
 ghost use Rattle.inspecting.specs.Inspection.{Tickets, Shown};

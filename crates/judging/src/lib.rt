@@ -1,4 +1,6 @@
 // The verdict on a whole packet.
+#![tactic(auto)]
+
 ghost use Rattle.std.specs.Prelude.{◌≡◌, length};
 ghost use Rattle.ring.specs.Ring.{page_size};
 ghost use Rattle.packet.specs.Judge.{judge};

@@ -1,4 +1,6 @@
 // Held packets leave in the order of taking, as far as finished ones reach: their replies are written, and their records freed.
+#![tactic(auto)]
+
 ghost use Rattle.std.specs.Prelude.{◌≡◌, ◌≤◌, ◌<◌, length};
 ghost use Rattle.ring.specs.Ring.{page_size, wadd};
 ghost use Rattle.held.specs.Release.{release};

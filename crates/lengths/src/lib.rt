@@ -1,4 +1,6 @@
 // The length of a frame: whether a frame may have it, and the pieces of a page each that it comes in.
+#![tactic(auto)]
+
 ghost use Rattle.std.specs.Prelude.{◌≡◌, ◌-◌, ◌*◌, ◌≤◌, min};
 ghost use Rattle.receive.specs.Put.{piece_size, bad_length, needed};
 

@@ -1,4 +1,6 @@
 // One take of a batch: on what is left of the frame buffer, its report listed; and the numbers behind it.
+#![tactic(auto)]
+
 ghost use Rattle.std.specs.Prelude.{◌≡◌, List, ◌+◌, ◌*◌, ◌≤◌, ◌<◌, length, drop};
 ghost use Rattle.held.specs.declared.Held.{Held};
 ghost use Rattle.transmit.specs.Take.{transmit_take};
@@ -12,7 +14,7 @@ use transmit::{Answer, Queue};
 
 // The numbers of a batch between two takes: its queue, whether its list of records is valid, the place of the first free record, which is
 // behind the list if none is free, the bytes of the frame buffer that are filled, the reports listed, and how many takes may follow.
-#[derive(Drop)]
+#[derive(Clone, Copy)]
 pub struct Batch {
     pub queue: Queue,
     pub good: bool,

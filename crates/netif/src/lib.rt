@@ -1,4 +1,6 @@
 // Slots of the network rings: their bytes taken apart.
+#![tactic(auto)]
+
 ghost use Rattle.std.specs.Prelude.{◌≡◌, length};
 ghost use Rattle.words.specs.Word.{bit};
 ghost use Rattle.ring.specs.Ring.{page_size};
@@ -6,7 +8,7 @@ ghost use Rattle.netif.specs.Slot.{slot_width, request_width, transmit_slot, rec
 ghost use Rattle.netif.specs.Decode.{data_of, extra_of, request_of};
 
 // A data slot of the transmit ring.
-#[derive(Drop)]
+#[derive(Clone, Copy)]
 pub struct DataSlot {
     pub gref: u32,
     pub offset: u16,
@@ -81,7 +83,7 @@ impl DataSlot {
 }
 
 // An extra of the transmit ring.
-#[derive(Drop)]
+#[derive(Clone, Copy)]
 pub struct Extra {
     pub kind: u8,
     pub flags: u8,
@@ -130,7 +132,7 @@ impl Extra {
 }
 
 // A request of the receive ring.
-#[derive(Drop)]
+#[derive(Clone, Copy)]
 pub struct Request {
     pub id: u16,
     pub gref: u32,

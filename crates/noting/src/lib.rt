@@ -1,4 +1,6 @@
 // The tally and the index that an inspection of held packets makes: one record noted in both, and the walk along the index.
+#![tactic(auto)]
+
 ghost use Rattle.std.specs.Prelude.{◌≡◌, ◌%◌, ◌<◌, ◌≤◌, slice_index};
 ghost use Rattle.noting.specs.Survey.{within_limits, made, unread, refusing, noted, chain_of, confirmed};
 
@@ -10,7 +12,7 @@ const MOST_SLOTS: u32 = 256;
 
 // What is found of a list: whether it is valid; whether all its records are in use, and else the place of the first free one; and the slots that
 // are held.
-#[derive(Drop)]
+#[derive(Clone, Copy)]
 pub struct Tally {
     pub good: bool,
     pub full: bool,

@@ -1,4 +1,6 @@
 // A frame of one page, posted with no loop and no table.
+#![tactic(auto)]
+
 ghost use Rattle.std.specs.Prelude.{◌≡◌, false, length};
 ghost use Rattle.ring.specs.Ring.{page_size};
 ghost use Rattle.receive.specs.Put.{bad_length, needed};

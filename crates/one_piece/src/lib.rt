@@ -1,4 +1,6 @@
 // The one request that a frame of one piece needs: judged, and then refused, or given the frame and replied to, with no loop and no table.
+#![tactic(auto)]
+
 ghost use Rattle.std.specs.Prelude.{◌≡◌, ◌+◌, ◌*◌, ◌≤◌, [], ◌∷◌, length};
 ghost use Rattle.ring.specs.Ring.{page_size};
 ghost use Rattle.netif.specs.Slot.{receive_slots};

@@ -1,4 +1,6 @@
 // A frame in pieces: where they are written, and the replies to the requests that got them.
+#![tactic(auto)]
+
 ghost use Rattle.std.specs.Prelude.{◌≡◌, ◌+◌, ◌*◌, ◌≤◌, length, take};
 ghost use Rattle.words.specs.Word.{splice};
 ghost use Rattle.ring.specs.Ring.{page_size, slot_place, with_slots};

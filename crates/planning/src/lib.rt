@@ -1,4 +1,6 @@
 // Causes 4 and 5 of a whole packet's data slots, and the plan of its parts.
+#![tactic(auto)]
+
 ghost use Rattle.std.specs.Prelude.{◌≡◌, ◌≤◌, length};
 ghost use Rattle.ring.specs.Ring.{page_size};
 ghost use Rattle.packet.specs.Judge.{judge_slots};

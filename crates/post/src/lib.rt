@@ -1,4 +1,6 @@
 // One post: a frame laid into granted pages and posted on a transmit ring as one packet.
+#![tactic(auto)]
+
 ghost use Rattle.std.specs.Prelude.{◌≡◌, false, length};
 ghost use Rattle.ring.specs.Ring.{page_size};
 ghost use Rattle.receive.specs.Put.{bad_length, needed};

@@ -1,4 +1,6 @@
 // The words of a post: the gso's three and the report's eleven.
+#![tactic(auto)]
+
 ghost use Rattle.std.specs.Prelude.{◌≡◌};
 ghost use Rattle.answer.specs.Report.{done_report, plain_summary};
 ghost use Rattle.answer.specs.Words.{report_words};

@@ -1,4 +1,6 @@
 // The slots of a packet, as they are written to the ring.
+#![tactic(auto)]
+
 ghost use Rattle.std.specs.Prelude.{◌≡◌, ◌+◌, ◌*◌, ◌≤◌, length, take, drop};
 ghost use Rattle.ring.specs.Ring.{page_size, with_slots};
 ghost use Rattle.netif.specs.Slot.{slot_width, slot_count};

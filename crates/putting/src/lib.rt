@@ -1,4 +1,6 @@
 // The receive call: a frame goes into the pages that the guest's requests name.
+#![tactic(auto)]
+
 ghost use Rattle.std.specs.Prelude.{◌≡◌, false, ◌-◌, length};
 ghost use Rattle.ring.specs.Ring.{page_size};
 ghost use Rattle.answer.specs.Report.{go_on};

@@ -1,4 +1,6 @@
 // Both readers of a run, and their answers compared.
+#![tactic(auto)]
+
 ghost use Rattle.std.specs.Prelude.{◌≡◌, ◌≤◌};
 ghost use Rattle.netif.specs.Slot.{slot_count};
 ghost use Rattle.division.specs.Answer.{number_of};
@@ -7,7 +9,7 @@ ghost use Rattle.readers.specs.Compare.{count_of, agreeing, compared_of};
 use division::{Divided, Ending};
 
 // What both readers answered, and at how many of the slow one's cuts the fast one cut the same.
-#[derive(Drop)]
+#[derive(Clone, Copy)]
 pub struct Compared {
     pub slow: Divided,
     pub fast: Divided,

@@ -1,4 +1,6 @@
 // The records of held packets in the list that a host lends: reading one, taking, finishing and freeing one.
+#![tactic(auto)]
+
 ghost use Rattle.std.specs.Prelude.{◌≡◌, ◌<◌, length, get_or, set};
 ghost use Rattle.held.specs.Records.{free};
 ghost use Rattle.records.specs.Finished.{finished_as};

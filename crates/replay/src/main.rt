@@ -1,5 +1,7 @@
 // Runs the stored ring pages of real guests that its arguments name, and then document 01's examples that are not proved, through
 // the library's calls, and prints a line for each take and each put. tests/reference/FORMAT.md describes the inputs and the lines.
+#![tactic(auto)]
+
 mod calls;
 mod examples;
 mod stored;

@@ -1,4 +1,6 @@
 // The words of a report that calls have in common, and of a put: the queue's two words and the report's eleven.
+#![tactic(auto)]
+
 ghost use Rattle.std.specs.Prelude.{◌≡◌};
 ghost use Rattle.answer.specs.Report.{flag, plain, spoiled_report, done_report, report_of};
 ghost use Rattle.answer.specs.Words.{queue_of, mark_after, report_words};

@@ -1,5 +1,7 @@
 // The shared ring page: its header's counters, where slots stand, and what either side stores there. A ring's layout is the
 // width of a slot in bytes and the number of slots, so that one function and one law serve every ring.
+#![tactic(auto)]
+
 ghost use Rattle.std.specs.Prelude.{◌≡◌, ◌+◌, ◌*◌, ◌<◌, ◌≤◌, ◌++◌, length, ◌==◌};
 ghost use Rattle.words.specs.Word.{u16_bytes, splice};
 ghost use Rattle.ring.specs.Ring.{page_size, req_prod, producer_at, wadd, posted, asking, notify, ProducerMoved, slot_place, slot_at};
@@ -18,7 +20,7 @@ const EVENT: usize = 4;
 const SLOTS: usize = 64;
 
 // The sides that publish on a ring: the guest its requests, the backend its replies.
-#[derive(Drop)]
+#[derive(Clone, Copy)]
 pub enum Side {
     Requests,
     Replies,

@@ -1,5 +1,7 @@
 // Runs of slots to compare the readers on: off a stored ring page, or generated, packets laid slot by slot, of which a few slots stay as
 // they were drawn.
+#![tactic(auto)]
+
 mod draw;
 
 ghost use Rattle.std.specs.Prelude.{◌≡◌, ◌+◌, ◌*◌, ◌/◌, ◌%◌, ◌<◌, ◌≤◌, length, if◌then◌else◌};
@@ -46,7 +48,7 @@ pub fn take(page: &[u8], from: u32, slots: u32, run: &mut [u8])
 }
 
 // The most later data slots and extras of a packet, and of how many slots in 256 the bytes stay as drawn.
-#[derive(Drop)]
+#[derive(Clone, Copy)]
 pub struct Setting {
     pub later: u8,
     pub extras: u8,
@@ -54,7 +56,7 @@ pub struct Setting {
 }
 
 // The number drawn last, and the extras and later data slots that the packet still owes.
-#[derive(Drop)]
+#[derive(Clone, Copy)]
 pub struct Due {
     pub drawn: u32,
     pub extras: u32,

@@ -1,4 +1,6 @@
 // What stands behind the first slot of a packet on a transmit ring: its extras, and its later data slots, each within the limit.
+#![tactic(auto)]
+
 ghost use Rattle.std.specs.Prelude.{◌≡◌, true, ◌+◌, ◌≤◌, ◌<◌, length};
 ghost use Rattle.ring.specs.Ring.{page_size};
 ghost use Rattle.grammar.specs.Grammar.{within};

@@ -1,4 +1,6 @@
 // The pages that a list of grant references names.
+#![tactic(auto)]
+
 ghost use Rattle.std.specs.Prelude.{◌≡◌, ◌≤◌, length};
 ghost use Rattle.frontend.specs.Stages.{Searched, PagesTested};
 

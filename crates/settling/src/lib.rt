@@ -1,4 +1,6 @@
 // A whole packet at the counter: refused, or gathered and accepted, if a record is free.
+#![tactic(auto)]
+
 ghost use Rattle.std.specs.Prelude.{◌≡◌, List, Bool, ℕ, ◌≤◌, ◌<◌, length};
 ghost use Rattle.ring.specs.Ring.{page_size};
 ghost use Rattle.netif.specs.Slot.{Slot};

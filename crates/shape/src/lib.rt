@@ -1,4 +1,6 @@
 // Whether slots of a run have the shape of a packet: each slot is tried by its place alone, and nothing goes on from slot to slot.
+#![tactic(auto)]
+
 ghost use Rattle.std.specs.Prelude.{◌≡◌, cond, not, ◌+◌, ◌*◌, ◌≤◌, ◌<◌, min, length};
 ghost use Rattle.netif.specs.Slot.{slot_width, slot_count};
 ghost use Rattle.division.specs.Run.{slot_in, slots_in};
@@ -8,7 +10,7 @@ ghost use Rattle.shape.specs.Kinds.{right_of, announces_of};
 use netif::{DataSlot, Extra};
 
 // A slot behind the first: an extra, or a later data slot.
-#[derive(Drop)]
+#[derive(Clone, Copy)]
 pub enum Kind {
     Extra,
     Later,

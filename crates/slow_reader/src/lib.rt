@@ -1,5 +1,7 @@
 // The slow reader of a run: for one length after the other it asks the grammar, by trying every shape of a packet, whether so many
 // slots are a packet or a proper beginning of one.
+#![tactic(auto)]
+
 ghost use Rattle.std.specs.Prelude.{◌≡◌, ◌+◌, ◌*◌, ◌≤◌, length};
 ghost use Rattle.netif.specs.Slot.{slot_width, slot_count};
 ghost use Rattle.division.specs.Run.{slots_in};
@@ -15,7 +17,7 @@ const EXTRAS: usize = 4;
 const LATER: usize = 17;
 
 // What some slots are: a packet, a proper beginning of one, or the beginning of none.
-#[derive(Drop)]
+#[derive(Clone, Copy)]
 pub enum Asked {
     Packet,
     Beginning,

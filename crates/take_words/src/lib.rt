@@ -1,4 +1,6 @@
 // The words of a take and of a finish: the queue's three words and the report's eleven.
+#![tactic(auto)]
+
 ghost use Rattle.std.specs.Prelude.{◌≡◌};
 ghost use Rattle.answer.specs.Report.{taken_report};
 ghost use Rattle.answer.specs.Words.{report_words};

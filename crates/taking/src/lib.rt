@@ -1,4 +1,6 @@
 // One take on a ring and its list of held packets.
+#![tactic(auto)]
+
 ghost use Rattle.transmit.specs.Take.{transmit_take};
 ghost use Rattle.concluding.specs.Taken.{TakenAs};
 

@@ -1,4 +1,6 @@
 // What is counted of the comparisons.
+#![tactic(auto)]
+
 mod answer;
 
 ghost use Rattle.std.specs.Prelude.{◌≡◌};
@@ -9,7 +11,7 @@ use readers::Compared;
 
 // Runs, their whole slots, the cuts of each reader, how many agreed, how many runs ended alike, and how many ended in each way by
 // the slow reader.
-#[derive(Drop)]
+#[derive(Clone, Copy)]
 pub struct Tally {
     pub runs: usize,
     pub slots: usize,

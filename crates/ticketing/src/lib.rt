@@ -1,4 +1,6 @@
 // Which record a ticket names, and whether its packet may be finished.
+#![tactic(auto)]
+
 ghost use Rattle.std.specs.Prelude.{◌≡◌, ◌≤◌, ◌&&◌, ◌==◌};
 ghost use Rattle.ring.specs.Ring.{wsub};
 ghost use Rattle.held.specs.Records.{is_status};

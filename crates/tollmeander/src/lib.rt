@@ -1,4 +1,6 @@
 // The C interface of the calls.
+#![tactic(auto)]
+
 ghost use Rattle.interface.specs.Interface.{TakeCallLeaves, FinishCallLeaves, ReceiveLeaves, PostLeaves};
 
 use held::Held;

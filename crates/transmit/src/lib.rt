@@ -1,9 +1,11 @@
 // One take and one finish on a transmit ring: definitions and laws. The functions are in `replying`, `settling`, `alone`, `taking` and
 // `finishing`; what holds of sequences of calls is in `sequences`.
+#![tactic(auto)]
+
 use answer::Summary;
 
 // A transmit ring's counters of slots consumed and of replies sent, and its halted mark.
-#[derive(Drop)]
+#[derive(Clone, Copy)]
 pub struct Queue {
     pub consumed: u32,
     pub replied: u32,
@@ -11,7 +13,7 @@ pub struct Queue {
 }
 
 // What a take answers; of a packet that is taken also how many of its slots are extras, for its record.
-#[derive(Drop)]
+#[derive(Clone, Copy)]
 pub enum Answer {
     Done {
         summary: Summary,

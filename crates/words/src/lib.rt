@@ -1,4 +1,6 @@
 // Little-endian numbers in byte slices.
+#![tactic(auto)]
+
 ghost use Rattle.std.specs.Prelude.{◌≡◌, ◌++◌, ◌+◌, ◌≤◌, ◌<◌, length};
 ghost use Rattle.words.specs.Word.{u16_at, u32_at, u16_bytes, u32_bytes, splice, bit};
 
