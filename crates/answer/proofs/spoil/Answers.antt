@@ -1,0 +1,12 @@
+-- `spoil` meets its contract: the counter is moved, and the answer and the queue say so (`gives_consumed`).
+use mathlib.Core.Path.{refl}
+use borrow.Author.Rules.{rules}
+use Rattle.answer.specs.Report.{spoiled_report}
+use Rattle.answer.proofs.Ends.{gives_consumed}
+use Rattle.answer.proofs.spoil.Goals as goal
+
+pub returns : goal.returns
+returns c = let a = c.args in
+    let new = c.ahead-new in
+    let moved = c.publish-notify in
+    gives_consumed (spoiled_report a.cause a.place a.slots) a.old a.slots a.ring.now new.result _ moved.result _ new.ensures moved.ensures refl c.go_on.ensures

@@ -1,0 +1,13 @@
+-- `replied_after` meets its contract: no packet is held, or one is.
+use mathlib.Core.Path.{refl}
+use borrow.Author.Rules.{rules}
+use borrow.Author.Tests.{eq-eqb, ne_eqb}
+use Rattle.concluding.proofs.replied_after.Goals as goal
+
+pub returns-then-queue : goal.returns-then-queue
+returns-then-queue c = let q = c.args.queue in
+    rw (eq-eqb q.consumed q.replied c.if-queue.true) c.ahead.ensures
+
+pub returns : goal.returns
+returns c = let q = c.args.queue in
+    rw (ne_eqb q.consumed q.replied c.if-queue.false) refl

@@ -1,0 +1,8 @@
+-- `refuse` meets its contract: the replies, then rsp_prod behind them, are what the definition consumes (`refused`).
+use borrow.Author.Rules.{rules}
+use Rattle.receive.proofs.Calls.{refused}
+use Rattle.delivering.proofs.refuse.Goals as goal
+
+pub returns : goal.returns
+returns c = let a = c.args in
+    refused a.old a.count a.ring.now a.cause a.place _ _ _ c.reply_errors.ensures c.spoil.ensures

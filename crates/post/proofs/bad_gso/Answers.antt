@@ -1,0 +1,17 @@
+-- `bad_gso` meets its contract: by cases, and then by the verdict of cause 6.
+use borrow.Author.Rules.{rules}
+use mathlib.Core.Path.{refl, sym, ap, ◌∙◌}
+use Rattle.frontend.specs.Post.{is_bad, bad_gso}
+use Rattle.post.proofs.bad_gso.Goals as goal
+
+pub returns-in-Absent : goal.returns-in-Absent
+unfolding bad_gso
+returns-in-Absent c = rw c.enum_told-1.given.1 refl
+
+pub returns-in-Good : goal.returns-in-Good
+unfolding bad_gso
+returns-in-Good c = rw c.gso-1.given.1 (sym (ap is_bad (sym c.judge_gso_lem.ensures ∙ c.enum_told-in-Good-1.given.1)))
+
+pub returns-in-Bad : goal.returns-in-Bad
+unfolding bad_gso
+returns-in-Bad c = rw c.gso-1.given.1 (sym (ap is_bad (sym c.judge_gso_lem.ensures ∙ c.cause-1.given.1)))

@@ -1,0 +1,29 @@
+-- `replying::reply_extras` meets its contract: after i turns the first i slots of the run are replied to, and the others stand as they stood.
+use mathlib.Core.Path.{◌≡◌, ap, ◌∙◌}
+use Prim.Native.Nat.{◌+◌, ◌-◌, ◌≤◌}
+use native.Mathlib.Omega.{arith}
+use lib.ListN.{length}
+use borrow.Author.Rules.{rules}
+use Rattle.netif.specs.Slot.{transmit_reply}
+use Rattle.packet.specs.Judge.{extra_reply}
+use Rattle.transmit.proofs.Cases.{extra_short}
+use Rattle.transmit.proofs.Replies.{by_none, by_length_lem, by_more}
+use Rattle.replying.proofs.reply_extras.Goals as goal
+
+pub loop-i-init : goal.loop-i-init
+loop-i-init c = let a = c.args in
+    (omega arith, by_none extra_reply extra_short a.ring.now (search rules) (a.first + 1), search rules)
+
+pub loop-i-preserved : goal.loop-i-preserved
+unfolding extra_reply transmit_reply
+loop-i-preserved c = let a = c.args in
+    let l = c.loop-i in
+    let n = c.ahead in
+    let e = c.reply.ensures ∙ by_more extra_reply extra_short a.ring.now (search rules) a.first 1 l.i n.result n.ensures (omega arith) l.ring l.invariant.1 in
+    (omega arith, e, ap length e ∙ by_length_lem extra_reply extra_short a.ring.now (search rules) (a.first + 1) (l.i + 1))
+
+pub returns : goal.returns
+returns c = let a = c.args in
+    let l = c.loop-i in
+    let z : l.i ≡ a.extras = omega arith in
+    rw z at l.invariant.1

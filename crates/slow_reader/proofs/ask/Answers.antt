@@ -1,0 +1,32 @@
+-- `slow_reader::ask` meets its contract. The invariant: the slots begin no packet of fewer extras. Slots that begin a packet agree with its
+-- shape, which is within the limit, so that it was tried.
+use mathlib.Core.Path.{subst}
+use Prim.Native.Nat.{suc, ◌-◌, ◌≤◌, ◌<◌}
+use native.Mathlib.Omega.{arith}
+use borrow.Author.Count.{below_more}
+use borrow.Author.Rules.{rules}
+use Rattle.grammar.proofs.Within.{within_extras}
+use Rattle.division.specs.Run.{slots_in}
+use Rattle.slow_reader.specs.Asking.{AskedWith}
+use Rattle.slow_reader.specs.declared.Asked.TheVariants as asked
+use Rattle.division.proofs.Shapes.{begins_shape}
+use Rattle.slow_reader.proofs.ask.Goals as goal
+
+pub loop-extras-init : goal.loop-extras-init
+loop-extras-init c = (λ e h. absurd (omega arith), omega arith)
+
+pub returns-in-Packet : goal.returns-in-Packet
+returns-in-Packet c = subst (AskedWith _ _) c.enum_told-1.given.1 c.ask_with-asked.ensures
+
+pub returns-in-Beginning : goal.returns-in-Beginning
+returns-in-Beginning c = subst (AskedWith _ _) c.enum_told-in-Beginning-1.given.1 c.ask_with-asked.ensures
+
+pub loop-extras-preserved : goal.loop-extras-preserved
+loop-extras-preserved c = let l = c.loop-extras in
+    (below_more _ _ l.invariant.0 (subst (AskedWith _ _) c.enum_told-in-Neither-1.given.1 c.ask_with-asked.ensures), omega arith)
+
+pub returns : goal.returns
+returns c = let a = c.args in
+    λ b.
+    let (d, e, w, n, h) = begins_shape (slots_in a.run.now a.at a.n) b in
+    c.loop-extras.invariant.0 e (omega (arith, within_extras (suc d) e w)) d w n h

@@ -1,0 +1,47 @@
+-- `slow_reader::ask_with` meets its contract. The invariant: with fewer later data slots the slots begin no packet of so many extras. A shape
+-- that they agree with is within the limit, as the loop ends there.
+use mathlib.Core.Path.{◌≡◌, sym, ◌∙◌}
+use mathlib.Core.Bool.{true, false}
+use Prim.Native.Nat.{suc, ◌+◌, ◌-◌, ◌≤◌, ◌<◌}
+use native.Mathlib.Omega.{arith}
+use borrow.Author.Count.{below_more}
+use borrow.Author.Rules.{rules}
+use Rattle.words.proofs.Word.{no_confusion}
+use Rattle.grammar.proofs.Within.{within_most, within_datas}
+use Rattle.division.specs.Run.{slots_in}
+use Rattle.division.specs.Shape.{shaped}
+use Rattle.division.proofs.Runs.{slots_length}
+use Rattle.division.proofs.Shapes.{shape_packet, shape_begins}
+use Rattle.slow_reader.proofs.ask_with.Goals as goal
+
+pub loop-later-init : goal.loop-later-init
+loop-later-init c = (λ d h. absurd (omega arith), omega arith)
+
+pub returns-then-n-all-2 : goal.returns-then-n-all-2
+returns-then-n-all-2 c = let l = c.loop-later in
+    let a = c.args in
+    shape_packet l.later a.extras (within_most (suc l.later) a.extras (omega arith) c.requires.3) (slots_in a.run.now a.at a.n)
+    (omega (arith, slots_length a.run.now a.n a.at)) (rw c.shaped.ensures at c.if-shaped.true)
+
+pub returns-then-shaped : goal.returns-then-shaped
+returns-then-shaped c = let l = c.loop-later in
+    let a = c.args in
+    let k = slots_length a.run.now a.n a.at in
+    shape_begins l.later a.extras (within_most (suc l.later) a.extras (omega arith) c.requires.3) (slots_in a.run.now a.at a.n)
+    (omega arith) (omega (arith, c.if-n-all.true, c.if-n-all-2.false)) (rw c.shaped.ensures at c.if-shaped.true)
+
+pub loop-later-preserved : goal.loop-later-preserved
+loop-later-preserved c = let l = c.loop-later in
+    let a = c.args in (
+      below_more _ _ l.invariant.0
+          (λ w n h. ⊎_elim
+          (λ v. let z : true ≡ false = sym h ∙ sym v.1.ensures ∙ v.2.left in no_confusion cc)
+          (λ v. omega (arith, v.left, slots_length a.run.now a.n a.at))
+          c.else-n-all.branch),
+      omega arith,
+    )
+
+pub returns : goal.returns
+returns c = let l = c.loop-later in
+    let a = c.args in
+    λ d w. l.invariant.0 d (omega (arith, within_datas (suc d) a.extras w)) w

@@ -1,0 +1,16 @@
+-- `replied_after` meets its contract, by the cases of the answer.
+use mathlib.Core.Path.{refl}
+use borrow.Author.Rules.{rules}
+use Rattle.take_words.proofs.replied_after.Goals as goal
+
+pub returns-in-Done : goal.returns-in-Done
+returns-in-Done c = rw c.finished-1.given.1 c.ahead.ensures
+
+pub returns-in-BadPage : goal.returns-in-BadPage
+returns-in-BadPage c = rw c.enum_told-1.given.1 refl
+
+pub returns-in-BadRecords : goal.returns-in-BadRecords
+returns-in-BadRecords c = rw c.enum_told-in-BadRecords-1.given.1 refl
+
+pub returns-in-BadTicket : goal.returns-in-BadTicket
+returns-in-BadTicket c = rw c.enum_told-in-BadTicket-1.given.1 refl

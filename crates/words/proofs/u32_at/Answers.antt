@@ -1,0 +1,42 @@
+-- `u32_at` meets its contract: each of the four bytes is below 256, so no product and no sum wraps.
+use borrow.Author.Rules.{rules}
+use native.Mathlib.Omega.{arith}
+use Prim.Native.Nat.{◌+◌}
+use Rattle.words.specs.Word.{u32_at}
+use Rattle.words.proofs.u32_at.Goals as goal
+
+pub overflow_cast-result : goal.overflow_cast-result
+overflow_cast-result c = omega (arith, c.type_inv.b c.args.at)
+
+pub overflow_cast-result-2 : goal.overflow_cast-result-2
+overflow_cast-result-2 c = omega (arith, c.type_inv.b (c.args.at + 1))
+
+pub overflow_mul-result : goal.overflow_mul-result
+overflow_mul-result c = omega (arith, c.type_inv.b (c.args.at + 1))
+
+pub overflow_add-result-2 : goal.overflow_add-result-2
+overflow_add-result-2 c = omega (arith, c.type_inv.b (c.args.at + 1), c.type_inv.b c.args.at)
+
+pub overflow_cast-result-3 : goal.overflow_cast-result-3
+overflow_cast-result-3 c = omega (arith, c.type_inv.b (c.args.at + 2))
+
+pub overflow_mul-result-2 : goal.overflow_mul-result-2
+overflow_mul-result-2 c = omega (arith, c.type_inv.b (c.args.at + 2))
+
+pub overflow_add-result-4 : goal.overflow_add-result-4
+overflow_add-result-4 c = let at = c.args.at in
+    omega (arith, c.type_inv.b (at + 2), c.type_inv.b (at + 1), c.type_inv.b at)
+
+pub overflow_cast-result-4 : goal.overflow_cast-result-4
+overflow_cast-result-4 c = omega (arith, c.type_inv.b (c.args.at + 3))
+
+pub overflow_mul-result-3 : goal.overflow_mul-result-3
+overflow_mul-result-3 c = omega (arith, c.type_inv.b (c.args.at + 3))
+
+pub overflow_add-result-6 : goal.overflow_add-result-6
+overflow_add-result-6 c = let at = c.args.at in
+    omega (arith, c.type_inv.b (at + 3), c.type_inv.b (at + 2), c.type_inv.b (at + 1), c.type_inv.b at)
+
+pub returns : goal.returns
+unfolding u32_at
+returns c = search rules
