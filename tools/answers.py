@@ -34,6 +34,11 @@ class Names:
         self.typed = listed["typed"]
         self.loops = listed["loops"]
         self.changed = listed["changed"]
+        self.args = {}
+        for a, b in listed["args"]:
+            a, b = a.split(), b.split()
+            if a[0] == ".args":
+                self.args[a[1][1:]] = b[1][1:]
         self.by_need = {}
         for k, (old, new) in enumerate(self.needs):
             self.by_need.setdefault(canon(old), k)
@@ -101,6 +106,8 @@ class Names:
             return place, [step, *rest]
         if fields[0] == "pre":
             fields[0] = "requires"
+        if fields[0] in ("args", "ranges") and len(fields) > 1:
+            fields[1] = self.args.get(fields[1], fields[1])
         return place, fields
 
 
@@ -302,7 +309,7 @@ def imports(uses, text):
             out.append(line)
             continue
         names = [n.strip() for n in m.group(2).split(",")]
-        stay = [n for n in names if n.startswith("◌") or "◌" in n or n in ("[]", "rules", "arith") or n.split(" as ")[-1] in words]
+        stay = [n for n in names if "◌" in n or not n[0].isalpha() or n in ("rules", "arith") or n.split(" as ")[-1] in words]
         if stay:
             out.append(f"use {m.group(1)}.{{{', '.join(stay)}}}")
     return out

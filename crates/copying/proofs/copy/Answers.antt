@@ -1,6 +1,7 @@
 -- `copying::copy` meets its contract. The passes copy the first 8 * (n / 8) bytes of src. Without a tail these are all; with one they reach
 -- the last eight, which were copied before. Fewer than eight bytes are copied one by one.
 use mathlib.Core.Path.{◌≡◌, ap, ◌∙◌}
+use mathlib.Core.Logic.{⊎_elim}
 use Prim.Native.Nat.{◌-◌, ◌*◌, ◌/◌}
 use native.Mathlib.Omega.{arith}
 use lib.ListN.{length, take, drop, length-drop}

@@ -1,6 +1,7 @@
 -- `fit_to_write` meets its contract: fit for receive is fit for transmit, writable and the whole page (`write_of`).
 use borrow.Author.Rules.{rules}
 use mathlib.Core.Path.{◌≡◌, refl, sym, ap, ◌∙◌}
+use mathlib.Core.Logic.{⊎_elim}
 use mathlib.Core.Bool.{true, false, ◌&&◌}
 use Rattle.grant.specs.Grant.{page_of, fit_transmit, writable, whole_page}
 use Rattle.grant.specs.declared.Page.TheVariants as page

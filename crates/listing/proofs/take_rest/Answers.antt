@@ -1,5 +1,6 @@
 -- `take_rest` meets its contract as `concluding::conclude` does; a part of the frame buffer that is lent is given back behind the bytes filled.
 use mathlib.Core.Path.{◌≡◌, ap, ◌∙◌}
+use mathlib.Core.Logic.{⊎_elim}
 use mathlib.Core.List.{List, ◌++◌}
 use Prim.Native.Nat.{ℕ, ◌-◌, ◌≤◌}
 use native.Mathlib.Omega.{arith}

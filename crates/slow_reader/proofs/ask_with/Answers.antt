@@ -1,6 +1,7 @@
 -- `slow_reader::ask_with` meets its contract. The invariant: with fewer later data slots the slots begin no packet of so many extras. A shape
 -- that they agree with is within the limit, as the loop ends there.
 use mathlib.Core.Path.{◌≡◌, sym, ◌∙◌}
+use mathlib.Core.Logic.{⊎_elim}
 use mathlib.Core.Bool.{true, false}
 use Prim.Native.Nat.{suc, ◌+◌, ◌-◌, ◌≤◌, ◌<◌}
 use native.Mathlib.Omega.{arith}
