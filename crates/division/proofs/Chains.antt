@@ -51,6 +51,7 @@ module _ (right announces : Slot → Bool) (n : ℕ) where
 
   -- a chain's slots are right at their places
   chain_begun : (l : List Slot) (j : ℕ) → Chain right announces l → j + length l ≡ n → begun right announces n j l ≡ true
+  chain_begun [] j x e = elim x [ ]
   chain_begun (s ∷ []) j (final r a) e = both _ _ (right_link j s r (a ∙ sym (le-ltb (suc j) n (omega arith)))) refl
   chain_begun (s ∷ l) j (linked r a c) e = both _ _ (right_link j s r (a ∙ sym (lt-ltb (suc j) n (omega (arith, chain_some c))))) (chain_begun l (suc j) c (omega arith))
 
