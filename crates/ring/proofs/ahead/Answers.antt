@@ -1,5 +1,4 @@
 -- `ahead` meets its contract: the addition of `std::num` wraps as `wadd` does.
-use Rattle.std.proofs.Common.{rules}
 use Rattle.ring.specs.Ring.{wadd}
 use Rattle.ring.proofs.ahead.Goals as goal
 

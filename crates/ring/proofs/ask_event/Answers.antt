@@ -1,5 +1,5 @@
 -- `ask_event` meets its contract: req_prod as read, plus 1, stored at byte 4.
-use Rattle.std.proofs.Common.{ℕ, ap, ◌∙◌, rules}
+use Rattle.std.proofs.Common.{ℕ, ap, ◌∙◌}
 use Rattle.words.specs.Word.{splice, u32_bytes}
 use Rattle.ring.specs.Ring.{wadd, asking, with_req_event}
 use Rattle.ring.proofs.ask_event.Goals as goal

@@ -1,5 +1,5 @@
 -- `place` meets its contract: its arithmetic is the definition's.
-use Rattle.std.proofs.Common.{refl, mod-lt, arith, rules}
+use Rattle.std.proofs.Common.{refl, mod-lt, arith}
 use Rattle.ring.specs.Ring.{slot_place}
 use Rattle.ring.proofs.Ring.{place_fits}
 use Rattle.ring.proofs.place.Goals as goal

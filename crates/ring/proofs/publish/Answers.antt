@@ -1,5 +1,5 @@
 -- `publish` meets its contract: the counter is stored where the side has it, and that leaves the other side's event.
-use Rattle.std.proofs.Common.{ℕ, List, ap, ◌∙◌, arith, rules}
+use Rattle.std.proofs.Common.{ℕ, List, ap, ◌∙◌, arith}
 use Rattle.words.specs.Word.{u32_bytes, splice}
 use Rattle.ring.specs.Ring.{with_producer, notify}
 use Rattle.ring.proofs.Facts.{producer_low, notify_moved}

@@ -1,5 +1,5 @@
 -- `reply` meets its contract: the pair is stored where the slot stands.
-use Rattle.std.proofs.Common.{◌++◌, ap, ◌∙◌, arith, rules}
+use Rattle.std.proofs.Common.{◌++◌, ap, ◌∙◌, arith}
 use Rattle.words.specs.Word.{splice, u16_bytes}
 use Rattle.ring.proofs.Ring.{place_fits}
 use Rattle.ring.proofs.reply.Goals as goal

@@ -1,5 +1,4 @@
 -- `requests` meets its contract: the number where req_prod stands.
-use Rattle.std.proofs.Common.{rules}
 use Rattle.ring.proofs.requests.Goals as goal
 
 pub returns : goal.returns
