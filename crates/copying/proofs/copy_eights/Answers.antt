@@ -4,7 +4,6 @@ use Prim.Native.Nat.{◌*◌, ◌/◌}
 use native.Mathlib.Omega.{arith}
 use lib.ListN.{length, take}
 use lib.Seq.{length-take-le}
-use borrow.Author.Rules.{rules}
 use Rattle.words.specs.Word.{splice}
 use Rattle.copying.proofs.Copied.{splice_front}
 use Rattle.copying.proofs.copy_eights.Goals as goal

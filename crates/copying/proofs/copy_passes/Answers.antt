@@ -1,9 +1,8 @@
 -- `copying::copy_passes` meets its contract. After k passes the first 8 * k bytes of src are at the front of dst.
 use mathlib.Core.Path.{◌≡◌, refl, sym, ap, ◌∙◌}
-use Prim.Native.Nat.{◌+◌, ◌-◌, ◌*◌, ◌≤◌}
+use Prim.Native.Nat.{◌+◌, ◌*◌}
 use native.Mathlib.Omega.{arith}
 use lib.ListN.{take, drop}
-use borrow.Author.Rules.{rules}
 use Rattle.words.specs.Word.{splice}
 use Rattle.words.proofs.Word.{splice_none}
 use Rattle.copying.proofs.Copied.{splice_front_more}
@@ -18,7 +17,7 @@ loop-k-preserved c = let l = c.loop-k in
     let read = c.eight_at.ensures in
     let next : 8 * l.k + 8 ≡ 8 * (l.k + 1) = omega arith in (
       omega arith,
-      omega (arith, c.put_eight.auto.0),
+      omega (arith, c.put_eight.auto.b),
       c.put_eight.ensures
           ∙ ap (splice l.dst (8 * l.k)) read
           ∙ ap (λ d. splice d (8 * l.k) (take 8 (drop (8 * l.k) a.src.now))) l.invariant.2

@@ -1,9 +1,7 @@
 -- `copying::copy_passes` meets its contract. After k passes the first 8 * k bytes of src are at the front of dst.
-use mathlib.Core.Path.{◌≡◌, ◌∙◌}
-use Prim.Native.Nat.{◌+◌, ◌-◌, ◌*◌, ◌≤◌}
-use native.Mathlib.Omega.{arith}
+use mathlib.Core.Path.{◌≡◌}
+use Prim.Native.Nat.{◌-◌, ◌*◌, ◌≤◌}
 use lib.ListN.{length, take}
-use borrow.Author.Rules.{rules}
 use Rattle.words.specs.Word.{splice}
 use Rattle.copying.proofs.copy_passes.Given as goal
 

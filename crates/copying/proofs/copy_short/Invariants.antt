@@ -1,11 +1,8 @@
 -- `copying::copy_short` meets its contract. After i turns dst starts with the first i bytes of src, or with all of them where there are
 -- fewer. A turn that copies is `splice_next`; one that does not finds all of src copied.
-use mathlib.Core.Path.{◌≡◌, ◌∙◌}
-use mathlib.Core.Logic.{⊎_elim}
-use Prim.Native.Nat.{◌+◌, ◌-◌, ◌≤◌}
-use native.Mathlib.Omega.{arith}
+use mathlib.Core.Path.{◌≡◌}
+use Prim.Native.Nat.{◌-◌, ◌≤◌}
 use lib.ListN.{length, take}
-use borrow.Author.Rules.{rules}
 use Rattle.words.specs.Word.{splice}
 use Rattle.copying.proofs.copy_short.Given as goal
 

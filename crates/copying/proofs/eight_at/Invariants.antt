@@ -1,9 +1,7 @@
 -- `copying::eight_at` meets its contract. After i turns `bytes` starts with the first i bytes at the position.
-use mathlib.Core.Path.{◌≡◌, ◌∙◌}
-use Prim.Native.Nat.{◌+◌, ◌-◌, ◌≤◌}
-use native.Mathlib.Omega.{arith}
+use mathlib.Core.Path.{◌≡◌}
+use Prim.Native.Nat.{◌-◌, ◌≤◌}
 use lib.ListN.{length, take, drop}
-use borrow.Author.Rules.{rules}
 use Rattle.copying.proofs.eight_at.Given as goal
 
 abbrev pub invariant-loop-i : goal.invariant-loop-i
