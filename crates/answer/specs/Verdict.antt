@@ -4,8 +4,8 @@ use Rattle.answer.specs.declared.Verdict.{Verdict}
 use Rattle.answer.specs.declared.Verdict.TheVariants.{Good, Bad}
 
 -- the first found wins
-infixr 30 ◌orElse◌
-abbrev pub ◌orElse◌ : Verdict → Verdict → Verdict
+infixr 30 ◌or_else◌
+abbrev pub ◌or_else◌ : Verdict → Verdict → Verdict
 Good or_else v = v
 (Bad c k) or_else v = Bad c k
 

@@ -14,7 +14,7 @@ use Rattle.grammar.specs.Packet.{first_of, later_of, sizes, gso_size_of, gso_typ
 use Rattle.netif.specs.Slot.{Slot, gref, offset, size}
 use Rattle.answer.specs.declared.Verdict.{Verdict}
 use Rattle.answer.specs.declared.Verdict.TheVariants.{Good, Bad}
-use Rattle.answer.specs.Verdict.{◌orElse◌, test}
+use Rattle.answer.specs.Verdict.{◌or_else◌, test}
 use Rattle.packet.specs.Judge.{total_of, own_part, judge_sizes, judge_gso, judge_slot, judge_later, judge_slots, judge}
 use Rattle.packet.proofs.Judge.{total_small}
 

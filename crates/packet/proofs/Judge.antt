@@ -15,7 +15,7 @@ use Rattle.netif.specs.Slot.{Slot, gref, offset, size}
 use Rattle.packet.specs.Judge.{total_of, own_part, judge_sizes, judge_slot, judge_later, judge_slots, judge, part_of, later_parts, frame_of}
 use Rattle.answer.specs.declared.Verdict.{Verdict}
 use Rattle.answer.specs.declared.Verdict.TheVariants.{Good, Bad}
-use Rattle.answer.specs.Verdict.{◌orElse◌, test}
+use Rattle.answer.specs.Verdict.{◌or_else◌, test}
 use Rattle.words.proofs.Word.{no_confusion, u16_small}
 
 -- ---- judging

@@ -17,7 +17,7 @@ use Rattle.ring.specs.Ring.{wadd}
 use Rattle.ring.proofs.Ring.{slot_wrap, slots_at, slots_length, slots_drop}
 use Rattle.grant.specs.Grant.{in_range, fit_transmit}
 use Rattle.grant.specs.Lookup.{source_of, source_cause}
-use Rattle.answer.specs.Verdict.{◌orElse◌, test}
+use Rattle.answer.specs.Verdict.{◌or_else◌, test}
 use Rattle.grant.proofs.Grant.{found_at, source_cause_lem}
 use Rattle.grant.specs.declared.Source.{Source}
 use Rattle.grant.specs.declared.Source.TheVariants as source

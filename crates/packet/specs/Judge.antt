@@ -4,7 +4,7 @@ use Rattle.std.specs.Prelude.{List, [], ◌∷◌, ◌++◌, map, not, ◌||◌,
 use Rattle.grant.specs.Grant.{in_range, fit_transmit, window_part}
 use Rattle.answer.specs.declared.Verdict.{Verdict}
 use Rattle.answer.specs.declared.Verdict.TheVariants.{Good}
-use Rattle.answer.specs.Verdict.{◌orElse◌, test}
+use Rattle.answer.specs.Verdict.{◌or_else◌, test}
 use Rattle.netif.specs.Slot.{Slot, gref, offset, ident, size, null, transmit_reply}
 use Rattle.grammar.specs.Packet.{first_of, extras_of, later_of, sizes, gso_size_of, gso_type_of}
 
