@@ -1,5 +1,4 @@
 -- `DataSlot::decode` meets its contract: each field is read where the definition has it.
-use borrow.Author.Rules.{rules}
 use Rattle.netif.specs.Slot.{gref, offset, flags, ident, size}
 use Rattle.netif.specs.Decode.{data_of}
 use Rattle.netif.proofs.DataSlot.decode.Goals as goal

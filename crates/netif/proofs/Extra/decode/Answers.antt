@@ -1,5 +1,4 @@
 -- `Extra::decode` meets its contract: each field is read where the definition has it.
-use borrow.Author.Rules.{rules}
 use Rattle.words.specs.Word.{byte_at}
 use Rattle.netif.specs.Slot.{gso_size, gso_type}
 use Rattle.netif.specs.Decode.{extra_of}

@@ -1,5 +1,4 @@
 -- `Request::at` meets its contract: the slot's bytes, decoded.
-use borrow.Author.Rules.{rules}
 use mathlib.Core.Path.{ap, ◌∙◌}
 use native.Mathlib.Omega.{arith}
 use lib.ListN.{length}

@@ -1,5 +1,4 @@
 -- `Request::decode` meets its contract: each field is read where the definition has it.
-use borrow.Author.Rules.{rules}
 use Rattle.netif.specs.Slot.{request_ident, request_gref}
 use Rattle.netif.specs.Decode.{request_of}
 use Rattle.netif.proofs.Request.decode.Goals as goal
