@@ -14,7 +14,7 @@ use Rattle.words.proofs.Word.{splice_more}
 use Rattle.ring.specs.Ring.{wadd}
 use Rattle.ring.proofs.Ring.{slots_at, slots_length, slots_snoc}
 use Rattle.ring.proofs.Replied.{slot_ahead, slots_ahead}
-use Rattle.netif.specs.Slot.{Slot, flags, size, more_data, extra_follows, is_extra, another_extra, gso_size, gso_type, transmit_slot, transmit_slots}
+use Rattle.netif.specs.Slot.{Slot, size, more_data, extra_follows, is_extra, another_extra, gso_size, gso_type, transmit_slot, transmit_slots}
 use Rattle.netif.specs.Decode.{data_of, extra_of}
 use Rattle.grammar.specs.Grammar.{within}
 use Rattle.grammar.specs.Divide.{whole, beginning, misshapen, owed, scan}

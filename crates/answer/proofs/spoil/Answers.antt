@@ -1,6 +1,5 @@
 -- `spoil` meets its contract: the counter is moved, and the answer and the queue say so (`gives_consumed`).
 use mathlib.Core.Path.{refl}
-use borrow.Author.Rules.{rules}
 use Rattle.answer.specs.Report.{spoiled_report}
 use Rattle.answer.proofs.Ends.{gives_consumed}
 use Rattle.answer.proofs.spoil.Goals as goal
