@@ -1,6 +1,4 @@
 -- `fit_to_read` meets its contract: each test of the code is one of `fit_transmit`'s, and each way out one law of `Grant`.
-use borrow.Author.Rules.{rules}
-use borrow.Author.Tests.{not-true, not-false}
 use mathlib.Core.Path.{sym, ◌∙◌}
 use native.Mathlib.Omega.{arith}
 use Rattle.grant.proofs.Grant.{no_word, has_word_lem, range_too_long, not_usable, not_granted, is_fit}
@@ -12,7 +10,7 @@ returns-then-grants-gref c = let a = c.args in no_word a.grants.now a.window.now
 pub returns-then-not-bit_of : goal.returns-then-not-bit_of
 returns-then-not-bit_of c = let a = c.args in
     let r = c.u32_at-word in
-    not_granted a.grants.now a.window.now a.gref (omega (arith, c.if-grants-gref.false)) r.result r.ensures (sym c.bit_of.ensures ∙ not-true _ c.if-not-bit_of.true-raw)
+    not_granted a.grants.now a.window.now a.gref (omega (arith, c.if-grants-gref.false)) r.result r.ensures (sym c.bit_of.ensures ∙ c.if-not-bit_of.true)
 
 pub range_end-requires : goal.range_end-requires
 range_end-requires c = let a = c.args in has_word_lem a.grants.now a.window.now a.gref (omega (arith, c.if-grants-gref.false))
@@ -28,4 +26,4 @@ returns-then-window-page c = let a = c.args in
 pub returns : goal.returns
 returns c = let a = c.args in
     let r = c.u32_at-word in
-    is_fit a.grants.now a.window.now a.gref (omega (arith, c.if-grants-gref.false)) r.result r.ensures (omega (arith, c.if-window-page.false)) (sym c.bit_of.ensures ∙ not-false _ c.if-not-bit_of.false-raw) (omega (arith, c.if-range_end-gt-PAGE.false, c.range_end.ensures))
+    is_fit a.grants.now a.window.now a.gref (omega (arith, c.if-grants-gref.false)) r.result r.ensures (omega (arith, c.if-window-page.false)) (sym c.bit_of.ensures ∙ c.if-not-bit_of.false) (omega (arith, c.if-range_end-gt-PAGE.false, c.range_end.ensures))

@@ -1,5 +1,4 @@
 -- `is_whole` meets its contract: in the page, a range of its length is the whole of it (`whole_length`).
-use borrow.Author.Rules.{rules}
 use mathlib.Core.Path.{ap, ◌∙◌}
 use lib.Dec.{eqb}
 use Rattle.grant.proofs.Grant.{whole_length}

@@ -1,5 +1,4 @@
 -- `is_writable` meets its contract: bit 1 of the word that was read.
-use borrow.Author.Rules.{rules}
 use mathlib.Core.Path.{ap, ◌∙◌}
 use native.Mathlib.Omega.{arith}
 use Rattle.words.specs.Word.{bit}

@@ -1,5 +1,4 @@
 -- `lookup` meets its contract: the part's end minus its start is its size, and by `looked_up` it is granted.
-use borrow.Author.Rules.{rules}
 use mathlib.Core.Path.{◌≡◌, ap}
 use Prim.Native.Nat.{ℕ, ◌+◌, ◌-◌, ◌*◌}
 use native.Mathlib.Omega.{arith}

@@ -1,5 +1,4 @@
 -- `range_end` meets its contract: the start and the length, added.
-use borrow.Author.Rules.{rules}
 use Prim.Native.Nat.{◌+◌}
 use Rattle.grant.specs.Grant.{range_end}
 use Rattle.grant.proofs.range_end.Goals as goal

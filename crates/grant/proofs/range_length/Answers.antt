@@ -1,5 +1,4 @@
 -- `range_length` meets its contract: the last number of the word.
-use borrow.Author.Rules.{rules}
 use native.Mathlib.Omega.{arith}
 use Rattle.grant.specs.Grant.{range_length}
 use Rattle.grant.proofs.Grant.{word_in}

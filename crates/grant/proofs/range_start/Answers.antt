@@ -1,5 +1,4 @@
 -- `range_start` meets its contract: the number behind the first four bytes of the word.
-use borrow.Author.Rules.{rules}
 use native.Mathlib.Omega.{arith}
 use Rattle.grant.specs.Grant.{range_start}
 use Rattle.grant.proofs.Grant.{word_in}

@@ -1,5 +1,4 @@
 -- `write` meets its contract: the copy into the page's part, and the window put together again around it.
-use borrow.Author.Rules.{rules}
 use mathlib.Core.Path.{ap, ◌∙◌}
 use mathlib.Core.List.{◌++◌}
 use Prim.Native.Nat.{◌+◌, ◌-◌, ◌*◌}
