@@ -51,12 +51,12 @@ read_step page at left r o some h k =
 
 pub returns-in-Whole : goal.returns-in-Whole
 returns-in-Whole c = let r = c.read-stands in
-    read_step c.args.page.now c.args.at c.args.left r.result (front.Whole c.stands-1.given.0.0) c.requires.1 r.ensures.answer c.stands-1.given.1
+    read_step c.args.page.now c.args.at c.args.left r.result (front.Whole c.stands-1.given.0.0) c.requires.1 r.ensures.answer c.in-Whole.is
 
 pub returns-in-Beginning : goal.returns-in-Beginning
 returns-in-Beginning c = let r = c.read-stands in
-    read_step c.args.page.now c.args.at c.args.left r.result front.Beginning c.requires.1 r.ensures.answer c.enum_told-1.given.1
+    read_step c.args.page.now c.args.at c.args.left r.result front.Beginning c.requires.1 r.ensures.answer c.in-Beginning.is
 
 pub returns-in-Misshapen : goal.returns-in-Misshapen
 returns-in-Misshapen c = let r = c.read-stands in
-    read_step c.args.page.now c.args.at c.args.left r.result front.Misshapen c.requires.1 r.ensures.answer c.enum_told-in-Misshapen-1.given.1
+    read_step c.args.page.now c.args.at c.args.left r.result front.Misshapen c.requires.1 r.ensures.answer c.in-Misshapen.is

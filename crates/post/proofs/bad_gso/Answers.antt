@@ -6,12 +6,12 @@ use Rattle.post.proofs.bad_gso.Goals as goal
 
 pub returns-in-Absent : goal.returns-in-Absent
 unfolding bad_gso
-returns-in-Absent c = rw c.enum_told-1.given.1 refl
+returns-in-Absent c = rw c.in-Absent.is refl
 
 pub returns-in-Good : goal.returns-in-Good
 unfolding bad_gso
-returns-in-Good c = rw c.gso-1.given.1 (sym (ap is_bad (sym c.judge_gso_lem.ensures ∙ c.enum_told-in-Good-1.given.1)))
+returns-in-Good c = rw c.in-Good.is (sym (ap is_bad (sym c.judge_gso_lem.ensures ∙ c.in-Good.is)))
 
 pub returns-in-Bad : goal.returns-in-Bad
 unfolding bad_gso
-returns-in-Bad c = rw c.gso-1.given.1 (sym (ap is_bad (sym c.judge_gso_lem.ensures ∙ c.cause-1.given.1)))
+returns-in-Bad c = rw c.in-Bad.is (sym (ap is_bad (sym c.judge_gso_lem.ensures ∙ c.in-Bad.is)))

@@ -5,7 +5,7 @@ use Rattle.frontend.specs.Post.{gso_extras}
 use Rattle.posting.proofs.extras_of.Goals as goal
 
 pub returns-in-Absent : goal.returns-in-Absent
-returns-in-Absent c = sym (ap gso_extras c.enum_told-1.given.1)
+returns-in-Absent c = sym (ap gso_extras c.in-Absent.is)
 
 pub returns-in-Given : goal.returns-in-Given
-returns-in-Given c = sym (ap gso_extras c.gso-1.given.1)
+returns-in-Given c = sym (ap gso_extras c.in-Given.is)

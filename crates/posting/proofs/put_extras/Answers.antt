@@ -3,7 +3,7 @@ use borrow.Author.Rules.{rules}
 use Rattle.posting.proofs.put_extras.Goals as goal
 
 pub returns-in-Absent : goal.returns-in-Absent
-returns-in-Absent c = rw c.enum_told-1.given.1
+returns-in-Absent c = rw c.in-Absent.is
 
 pub returns-in-Given : goal.returns-in-Given
-returns-in-Given c = rw c.gso-1.given.1 c.put_extra.ensures
+returns-in-Given c = rw c.in-Given.is c.put_extra.ensures

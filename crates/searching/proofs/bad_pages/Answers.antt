@@ -13,14 +13,14 @@ returns-then-references-count c = let a = c.args in
 pub returns-in-Apart : goal.returns-in-Apart
 returns-in-Apart c = let a = c.args in
     let s = c.search_pages.ensures in
-    (s.sized, sorted_apart a.grants.now a.window.now a.references.now a.count (omega (arith, c.if-references-count.false)) _ _ s c.enum_told-1.given.1)
+    (s.sized, sorted_apart a.grants.now a.window.now a.references.now a.count (omega (arith, c.if-references-count.false)) _ _ s c.in-Apart.is)
 
 pub returns-in-Unfit : goal.returns-in-Unfit
 returns-in-Unfit c = let a = c.args in
     let s = c.search_pages.ensures in
-    (s.sized, sorted_ended a.grants.now a.window.now a.references.now a.count (omega (arith, c.if-references-count.false)) _ _ s (ap ended c.enum_told-in-Unfit-1.given.1))
+    (s.sized, sorted_ended a.grants.now a.window.now a.references.now a.count (omega (arith, c.if-references-count.false)) _ _ s (ap ended c.in-Unfit.is))
 
 pub returns-in-Same : goal.returns-in-Same
 returns-in-Same c = let a = c.args in
     let s = c.search_pages.ensures in
-    (s.sized, sorted_ended a.grants.now a.window.now a.references.now a.count (omega (arith, c.if-references-count.false)) _ _ s (ap ended c.i-1.given.1))
+    (s.sized, sorted_ended a.grants.now a.window.now a.references.now a.count (omega (arith, c.if-references-count.false)) _ _ s (ap ended c.in-Same.is))

@@ -16,14 +16,14 @@ pub loop-extras-init : goal.loop-extras-init
 loop-extras-init c = (λ e h. absurd (omega arith), omega arith)
 
 pub returns-in-Packet : goal.returns-in-Packet
-returns-in-Packet c = subst (AskedWith _ _) c.enum_told-1.given.1 c.ask_with-asked.ensures
+returns-in-Packet c = subst (AskedWith _ _) c.in-Packet.is c.ask_with-asked.ensures
 
 pub returns-in-Beginning : goal.returns-in-Beginning
-returns-in-Beginning c = subst (AskedWith _ _) c.enum_told-in-Beginning-1.given.1 c.ask_with-asked.ensures
+returns-in-Beginning c = subst (AskedWith _ _) c.in-Beginning.is c.ask_with-asked.ensures
 
 pub loop-extras-preserved : goal.loop-extras-preserved
 loop-extras-preserved c = let l = c.loop-extras in
-    (below_more _ _ l.invariant.0 (subst (AskedWith _ _) c.enum_told-in-Neither-1.given.1 c.ask_with-asked.ensures), omega arith)
+    (below_more _ _ l.invariant.0 (subst (AskedWith _ _) c.in-Neither.is c.ask_with-asked.ensures), omega arith)
 
 pub returns : goal.returns
 returns c = let a = c.args in

@@ -14,6 +14,7 @@ use Rattle.division.specs.Shape.{shaped}
 use Rattle.division.proofs.Runs.{slots_length}
 use Rattle.division.proofs.Shapes.{shape_packet, shape_begins}
 use Rattle.slow_reader.proofs.ask_with.Goals as goal
+use Rattle.slow_reader.proofs.ask_with.Goals.{else-n-all-via-then-n-all+else-shaped, else-n-all-via-else-n-all}
 
 pub loop-later-init : goal.loop-later-init
 loop-later-init c = (λ d h. absurd (omega arith), omega arith)
@@ -35,10 +36,10 @@ pub loop-later-preserved : goal.loop-later-preserved
 loop-later-preserved c = let l = c.loop-later in
     let a = c.args in (
       below_more _ _ l.invariant.0
-          (λ w n h. ⊎_elim
-          (λ v. let z : true ≡ false = sym h ∙ sym v.1.ensures ∙ v.2.left in no_confusion cc)
-          (λ v. omega (arith, v.left, slots_length a.run.now a.n a.at))
-          c.else-n-all.branch),
+          (λ w n h. elim c.else-n-all.branch [
+            else-n-all-via-then-n-all+else-shaped v ↦ (let z : true ≡ false = sym h ∙ sym v.shaped.ensures ∙ v.if-shaped.false in no_confusion cc)
+          | else-n-all-via-else-n-all v ↦ omega (arith, v.if-n-all.false, slots_length a.run.now a.n a.at)
+          ]),
       omega arith,
     )
 

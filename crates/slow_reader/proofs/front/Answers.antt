@@ -14,16 +14,16 @@ loop-n-init c = (nothing_begins, omega arith, omega arith)
 
 pub returns-in-Packet : goal.returns-in-Packet
 returns-in-Packet c = let a = c.args in
-    front_packet a.run.now a.at a.left c.loop-n.n c.loop-n-test.true (subst (AskedIs _) c.enum_told-1.given.1 c.ask-asked.ensures)
+    front_packet a.run.now a.at a.left c.loop-n.n c.loop-n-test.true (subst (AskedIs _) c.in-Packet.is c.ask-asked.ensures)
 
 pub returns-in-Neither : goal.returns-in-Neither
 returns-in-Neither c = let a = c.args in
-    front_misshapen a.run.now a.at a.left c.loop-n.n c.loop-n-test.true c.loop-n.invariant.1 c.loop-n.invariant.0 (subst (AskedIs _) c.enum_told-in-Neither-1.given.1 c.ask-asked.ensures)
+    front_misshapen a.run.now a.at a.left c.loop-n.n c.loop-n-test.true c.loop-n.invariant.1 c.loop-n.invariant.0 (subst (AskedIs _) c.in-Neither.is c.ask-asked.ensures)
 
 pub loop-n-preserved : goal.loop-n-preserved
 loop-n-preserved c = let l = c.loop-n in
     let z : l.n + 1 - 1 ≡ l.n = omega arith in
-    (rw z (subst (AskedIs _) c.enum_told-in-Beginning-1.given.1 c.ask-asked.ensures), omega arith, omega arith)
+    (rw z (subst (AskedIs _) c.in-Beginning.is c.ask-asked.ensures), omega arith, omega arith)
 
 pub returns : goal.returns
 returns c = let z : c.loop-n.n - 1 ≡ c.args.left = omega arith in

@@ -4,13 +4,13 @@ use borrow.Author.Rules.{rules}
 use Rattle.take_words.proofs.replied_after.Goals as goal
 
 pub returns-in-Done : goal.returns-in-Done
-returns-in-Done c = rw c.finished-1.given.1 c.ahead.ensures
+returns-in-Done c = rw c.in-Done.is c.ahead.ensures
 
 pub returns-in-BadPage : goal.returns-in-BadPage
-returns-in-BadPage c = rw c.enum_told-1.given.1 refl
+returns-in-BadPage c = rw c.in-BadPage.is refl
 
 pub returns-in-BadRecords : goal.returns-in-BadRecords
-returns-in-BadRecords c = rw c.enum_told-in-BadRecords-1.given.1 refl
+returns-in-BadRecords c = rw c.in-BadRecords.is refl
 
 pub returns-in-BadTicket : goal.returns-in-BadTicket
-returns-in-BadTicket c = rw c.enum_told-in-BadTicket-1.given.1 refl
+returns-in-BadTicket c = rw c.in-BadTicket.is refl

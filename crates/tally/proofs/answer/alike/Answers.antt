@@ -10,4 +10,4 @@ cut-alike : (a b : Divided) (cuts : Cuts) (r : ℕ) → a ≡ divided.Cut cuts �
 cut-alike a b cuts r e h = rw e h
 
 pub returns-in-Cut : goal.returns-in-Cut
-returns-in-Cut c = cut-alike c.args.a c.args.b _ _ c.a-1.given.1 c.rest.ensures
+returns-in-Cut c = cut-alike c.args.a c.args.b _ _ c.in-Cut.is c.rest.ensures
