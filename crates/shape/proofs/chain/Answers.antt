@@ -1,8 +1,6 @@
 -- `shape::chain` meets its contract. The invariant: what is asked of all slots is asked of those that are left.
-use mathlib.Core.Path.{◌≡◌, sym, ◌∙◌}
-use Prim.Native.Nat.{◌-◌, ◌≤◌}
+use mathlib.Core.Path.{sym, ◌∙◌}
 use native.Mathlib.Omega.{arith}
-use borrow.Author.Rules.{rules}
 use Rattle.shape.specs.Kinds.{right_of, announces_of}
 use Rattle.shape.proofs.Reading.{asked_all, asked_none, asked_wrong, asked_next}
 use Rattle.shape.proofs.chain.Goals as goal

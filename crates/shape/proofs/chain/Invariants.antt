@@ -1,8 +1,6 @@
 -- `shape::chain` meets its contract. The invariant: what is asked of all slots is asked of those that are left.
-use mathlib.Core.Path.{◌≡◌, ◌∙◌}
+use mathlib.Core.Path.{◌≡◌}
 use Prim.Native.Nat.{◌-◌, ◌≤◌}
-use native.Mathlib.Omega.{arith}
-use borrow.Author.Rules.{rules}
 use Rattle.division.specs.Run.{slots_in}
 use Rattle.division.specs.Shape.{begun}
 use Rattle.shape.specs.Kinds.{right_of, announces_of}

@@ -1,5 +1,4 @@
 -- `shape::follow` meets its contract: the extras that are seen are the first of the slots, the later data slots stand behind them.
-use borrow.Author.Rules.{rules}
 use Rattle.shape.proofs.Reading.{follows_wrong, follows_right}
 use Rattle.shape.proofs.follow.Goals as goal
 

@@ -1,7 +1,6 @@
 -- `shape::link` meets its contract: the kind is known in each arm, and each way out is one law of `Links`.
 use mathlib.Core.Path.{ap, ◌∙◌}
 use lib.ListN.{length}
-use borrow.Author.Rules.{rules}
 use Rattle.netif.specs.Decode.{data_of, extra_of}
 use Rattle.division.proofs.Runs.{slot_length}
 use Rattle.shape.proofs.Reading.{extra_wrong, extra_right, later_wrong, later_right}

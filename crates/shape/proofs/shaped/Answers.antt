@@ -2,7 +2,6 @@
 use mathlib.Core.Path.{ap, ◌∙◌}
 use native.Mathlib.Omega.{arith}
 use lib.ListN.{length}
-use borrow.Author.Rules.{rules}
 use Rattle.netif.specs.Decode.{data_of}
 use Rattle.division.proofs.Runs.{slot_length}
 use Rattle.shape.proofs.Reading.{shaped_no_extra, shaped_no_more, shaped_behind}

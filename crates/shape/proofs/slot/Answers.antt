@@ -3,7 +3,6 @@ use mathlib.Core.Path.{◌≡◌, ap}
 use Prim.Native.Nat.{ℕ, ◌+◌, ◌-◌, ◌*◌}
 use native.Mathlib.Omega.{arith}
 use lib.ListN.{take, drop}
-use borrow.Author.Rules.{rules}
 use Rattle.netif.specs.Slot.{slot_width}
 use Rattle.division.specs.Run.{slot_in}
 use Rattle.shape.proofs.slot.Goals as goal

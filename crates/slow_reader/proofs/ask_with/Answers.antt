@@ -1,16 +1,13 @@
 -- `slow_reader::ask_with` meets its contract. The invariant: with fewer later data slots the slots begin no packet of so many extras. A shape
 -- that they agree with is within the limit, as the loop ends there.
 use mathlib.Core.Path.{◌≡◌, sym, ◌∙◌}
-use mathlib.Core.Logic.{⊎_elim}
 use mathlib.Core.Bool.{true, false}
-use Prim.Native.Nat.{suc, ◌+◌, ◌-◌, ◌≤◌, ◌<◌}
+use Prim.Native.Nat.{suc}
 use native.Mathlib.Omega.{arith}
 use borrow.Author.Count.{below_more}
-use borrow.Author.Rules.{rules}
 use Rattle.words.proofs.Word.{no_confusion}
 use Rattle.grammar.proofs.Within.{within_most, within_datas}
 use Rattle.division.specs.Run.{slots_in}
-use Rattle.division.specs.Shape.{shaped}
 use Rattle.division.proofs.Runs.{slots_length}
 use Rattle.division.proofs.Shapes.{shape_packet, shape_begins}
 use Rattle.slow_reader.proofs.ask_with.Goals as goal
@@ -37,8 +34,8 @@ loop-later-preserved c = let l = c.loop-later in
     let a = c.args in (
       below_more _ _ l.invariant.0
           (λ w n h. elim c.else-n-all.branch [
-            else-n-all-via-then-n-all+else-shaped v ↦ (let z : true ≡ false = sym h ∙ sym v.shaped.ensures ∙ v.if-shaped.false in no_confusion cc)
-          | else-n-all-via-else-n-all v ↦ omega (arith, v.if-n-all.false, slots_length a.run.now a.n a.at)
+            | else-n-all-via-then-n-all+else-shaped v ↦ (let z : true ≡ false = sym h ∙ sym v.shaped.ensures ∙ v.if-shaped.false in no_confusion cc)
+            | else-n-all-via-else-n-all v ↦ omega (arith, v.if-n-all.false, slots_length a.run.now a.n a.at)
           ]),
       omega arith,
     )

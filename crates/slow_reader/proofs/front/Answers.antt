@@ -1,9 +1,8 @@
 -- `slow_reader::front` meets its contract. The invariant: one slot fewer than the length that is asked about next is a proper beginning. Each
 -- way out is one law of `Lengths`.
 use mathlib.Core.Path.{◌≡◌, subst}
-use Prim.Native.Nat.{◌+◌, ◌-◌, ◌≤◌}
+use Prim.Native.Nat.{◌+◌, ◌-◌}
 use native.Mathlib.Omega.{arith}
-use borrow.Author.Rules.{rules}
 use Rattle.grammar.proofs.Grammar.{nothing_begins}
 use Rattle.slow_reader.specs.Asking.{AskedIs}
 use Rattle.slow_reader.proofs.Lengths.{front_packet, front_misshapen, front_waiting}

@@ -1,9 +1,6 @@
 -- `slow_reader::front` meets its contract. The invariant: one slot fewer than the length that is asked about next is a proper beginning. Each
 -- way out is one law of `Lengths`.
-use mathlib.Core.Path.{◌≡◌}
 use Prim.Native.Nat.{◌+◌, ◌-◌, ◌≤◌}
-use native.Mathlib.Omega.{arith}
-use borrow.Author.Rules.{rules}
 use Rattle.grammar.specs.Grammar.{BeginsProperly}
 use Rattle.division.specs.Run.{slots_in}
 use Rattle.slow_reader.proofs.front.Given as goal
