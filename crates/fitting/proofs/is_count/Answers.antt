@@ -9,4 +9,4 @@ returns-then-extras-gt-MOST_EXTRAS c = count_many c.args.slots c.args.extras (om
 pub returns : goal.returns
 returns c = let a = c.args in
     let d = c.wrapping_sub_u32 in
-    count_few a.slots a.extras d.result (omega (arith, c.if-extras-gt-MOST_EXTRAS.false)) (search rules) d.ensures
+    count_few a.slots a.extras d.result (omega (arith, c.if-extras-gt-MOST_EXTRAS.false)) (search rules) d.ensures.value
