@@ -1,4 +1,3 @@
 -- The laws of the definitions.
 pub mod Noting
 pub mod Chaining
-pub mod Element

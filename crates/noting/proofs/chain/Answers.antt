@@ -15,7 +15,7 @@ returns-then-e-lt256 c = let turn = c.loop-o in
     (rw (← c.entry-e.ensures) c.if-e-lt256.true)
 
 pub overflow_add-o : goal.overflow_add-o
-overflow_add-o c = record { fits = omega (arith, c.loop-o.invariant.bound, c.entry-e.type-inv) }
+overflow_add-o c = record { fits = omega (arith, c.loop-o.invariant.bound, c.entry-e.type_inv) }
 
 pub loop-o-smaller : goal.loop-o-smaller
 loop-o-smaller c = omega (arith, c.loop-o-test.true, c.if-e-lt256.false)
@@ -25,7 +25,7 @@ loop-o-preserved c = let turn = c.loop-o in
     let read = c.entry-e in
     rw read.ensures
     (met_next c.args.index.now c.args.between turn.o turn.invariant c.requires c.loop-o-test.true
-    (rw (← read.ensures) read.type-inv) (rw (← read.ensures) c.if-e-lt256.false))
+    (rw (← read.ensures) read.type_inv) (rw (← read.ensures) c.if-e-lt256.false))
 
 pub returns : goal.returns
 returns c = met_end c.args.index.now c.args.between c.loop-o.o c.loop-o.invariant c.loop-o-test.false
