@@ -2,4 +2,3 @@
 pub mod Indexing
 pub mod Turns
 pub mod Judging
-pub mod Contracts
