@@ -1,3 +1,2 @@
--- The laws of the definitions, and what other crates take of the functions here.
+-- The laws of the definitions.
 pub mod Unheld
-pub mod Contracts
