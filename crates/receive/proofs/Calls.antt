@@ -24,8 +24,6 @@ use Rattle.answer.specs.Report.{spoiled_report, done_report, plain_summary}
 use Rattle.answer.specs.Effect.{refusal, consume, Gives}
 use Rattle.answer.specs.declared.Queue.{Queue}
 use Rattle.answer.specs.declared.Outcome.{Outcome}
-use Rattle.answer.specs.declared.Answer.{Answer}
-use Rattle.answer.specs.declared.Answer.TheVariants as answer
 use Rattle.answer.specs.declared.Verdict.{Verdict}
 use Rattle.answer.specs.declared.Verdict.TheVariants.{Good, Bad}
 use Rattle.receive.specs.Put.{bad_length, needed, pages_named, scatter, error_replies, piece_replies, refuse, deliver, settle, receive_put}

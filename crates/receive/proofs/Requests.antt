@@ -17,7 +17,7 @@ use Rattle.grant.specs.declared.Page.TheVariants as found
 use Rattle.grant.proofs.Grant.{write_fit, write_unfit, receive_transmit, fit_page}
 use Rattle.netif.specs.Slot.{Slot, request_gref, receive_slot, receive_slots}
 use Rattle.netif.specs.Decode.{request_of}
-use Rattle.answer.specs.Verdict.{test, ◌orElse◌}
+use Rattle.answer.specs.Verdict.{test, ◌or_else◌}
 use Rattle.netif.specs.declared.Request.{Request}
 use Rattle.answer.specs.declared.Verdict.{Verdict}
 use Rattle.answer.specs.declared.Verdict.TheVariants.{Good, Bad}

@@ -5,7 +5,7 @@ use Rattle.grant.specs.Grant.{fit_receive, page_of, with_page}
 use Rattle.netif.specs.Slot.{Slot, request_width, request_count, error, request_ident, request_gref, receive_reply, receive_slots}
 use Rattle.answer.specs.Report.{spoiled_report, done_report, plain_summary}
 use Rattle.answer.specs.Effect.{Effect, refusal, consume}
-use Rattle.answer.specs.Verdict.{test, ◌orElse◌}
+use Rattle.answer.specs.Verdict.{test, ◌or_else◌}
 use Rattle.answer.specs.declared.Queue.{Queue}
 use Rattle.answer.specs.declared.Verdict.{Verdict}
 use Rattle.answer.specs.declared.Verdict.TheVariants.{Good, Bad}
