@@ -1,5 +1,4 @@
 -- `piece_of` meets its contract: the lesser of a page and what is left of the frame.
-use borrow.Author.Rules.{rules}
 use native.Mathlib.Omega.{arith}
 use Rattle.lengths.proofs.piece_of.Goals as goal
 
