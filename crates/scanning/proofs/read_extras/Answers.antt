@@ -2,98 +2,107 @@
 -- that are left, behind the extras counted so far. Each way out is one law of `Loop`.
 use mathlib.Core.Path.{◌≡◌, refl, sym, ap, ◌∙◌}
 use mathlib.Core.List.{List, ◌∷◌}
-use mathlib.Core.Bool.{Bool, true}
-use Prim.Native.Nat.{ℕ, ◌+◌, ◌-◌, ◌≤◌, ◌<◌}
+use mathlib.Core.Bool.{Bool, true, false}
+use Prim.Native.Nat.{ℕ, ◌+◌, ◌<◌}
 use native.Mathlib.Omega.{arith}
-use borrow.Author.Rules.{rules}
-use borrow.Author.Tests.{not-true, not-false}
-use Rattle.netif.specs.Slot.{Slot, transmit_slot}
+use Rattle.ring.specs.Ring.{wadd}
+use Rattle.netif.specs.Slot.{Slot, is_extra, another_extra, transmit_slot}
 use Rattle.grammar.specs.Grammar.{within}
-use Rattle.grammar.specs.Divide.{owed, scan}
+use Rattle.grammar.specs.Divide.{Cut, beginning, misshapen, owed, scan}
 use Rattle.grammar.specs.Stages.{behind}
 use Rattle.grammar.proofs.Within.{within_one, within_owed}
 use Rattle.grammar.proofs.Loop.{extra_closed, extra_end, extra_bad, extra_next, behind_none, behind_more, gso_size_next, gso_type_next, kind_other, kind_extra, another_bit, gso_size_field, gso_type_field}
 use Rattle.scanning.proofs.read_extras.Goals as goal
-use Rattle.scanning.proofs.read_extras.Goals.{After-at-extra, After-fits}
 
-module _ (f : After-fits) where
-  abbrev page : List ℕ
-  page = f.args.page.now
-
-  abbrev first : ℕ
-  first = f.args.first
-
-  abbrev posted : ℕ
-  posted = f.args.posted
-
-  abbrev count : ℕ
-  count = f.loop-another.count
-
+-- where one more extra is owed behind so many; `fits` says whether the limit allows it
+module _ (page : List ℕ) (first posted count : ℕ) (announced fits : Bool)
+    (so_far : (more : Bool) → scan (behind page first posted 1) 1 0 announced more ≡ scan (behind page first posted (count + 1)) 1 count true more)
+    (limit : fits ≡ within 1 (count + 1)) where
   -- the slots that are left
   abbrev left : List Slot
   left = behind page first posted (count + 1)
 
-  so_far : (more : Bool) → scan (behind page first posted 1) 1 0 f.args.announced more ≡ scan left 1 count true more
-  so_far more = f.loop-another.invariant.0 more ∙ ap (λ b. scan left 1 count b more) f.loop-another-test.true
+  -- what the scan makes of all
+  abbrev cut : Bool → Cut
+  cut more = scan (behind page first posted 1) 1 0 announced more
 
-  limit : (more : Bool) → within (1 + owed more) (count + 1) ≡ f.fits.result
-  limit more = within_owed more (count + 1) ∙ sym f.fits.ensures
+  owing : (more : Bool) → within (1 + owed more) (count + 1) ≡ fits
+  owing more = within_owed more (count + 1) ∙ sym limit
 
-module _ (r : After-at-extra) where
-  abbrev n : ℕ
-  n = r.ahead.result
+  over : fits ≡ false → (more : Bool) → cut more ≡ misshapen
+  over h more = so_far more ∙ extra_closed left 1 count more (owing more ∙ h)
 
-  right : (more : Bool) → within (1 + owed more) (count ?After-fits + 1) ≡ true
-  right more = limit ?After-fits more ∙ not-false _ r.if-not-fits.false-raw
+  ended : fits ≡ true → count + 1 ≡ posted → (more : Bool) → cut more ≡ beginning
+  ended h e more = so_far more ∙ extra_end left 1 count more (owing more ∙ h) (behind_none page first posted (count + 1) e)
 
-  fits_on : count ?After-fits + 1 < posted ?After-fits
-  fits_on = omega (arith, r.if-count-posted.false)
+  module _ (h : fits ≡ true) (n : ℕ) (k : count + 1 < posted) (here : n ≡ wadd first (count + 1)) where
+    next : left ≡ transmit_slot page n ∷ behind page first posted (count + 1 + 1)
+    next = behind_more page first posted n (count + 1) k here
 
-  next : left ?After-fits ≡ transmit_slot (page ?After-fits) n ∷ behind (page ?After-fits) (first ?After-fits) (posted ?After-fits) (count ?After-fits + 1 + 1)
-  next = behind_more (page ?After-fits) (first ?After-fits) (posted ?After-fits) n (count ?After-fits + 1) fits_on r.ahead.ensures
+    bad : is_extra (transmit_slot page n) ≡ false → (more : Bool) → cut more ≡ misshapen
+    bad e more = so_far more ∙ extra_bad left 1 count more (owing more ∙ h) _ _ next e
+
+    scanned_on : is_extra (transmit_slot page n) ≡ true → {b : Bool} → another_extra (transmit_slot page n) ≡ b
+        → (more : Bool) → cut more ≡ scan (behind page first posted (count + 1 + 1)) 1 (count + 1) b more
+    scanned_on e another more =
+        so_far more ∙ extra_next left 1 count more (owing more ∙ h) _ _ next e
+        ∙ ap (λ b. scan (behind page first posted (count + 1 + 1)) 1 (count + 1) b more) another
 
 pub loop-another-init : goal.loop-another-init
 loop-another-init c = (λ more. refl, omega arith, within_one, refl, refl)
 
 pub returns-then-not-fits : goal.returns-then-not-fits
-returns-then-not-fits c = let l = c.loop-another in
+returns-then-not-fits c = let a = c.args in
+    let l = c.loop-another in
+    let so_far = λ (more : Bool). l.invariant.0 more ∙ ap (λ b. scan (behind a.page.now a.first a.posted (l.count + 1)) 1 l.count b more) c.loop-another-test.true in
     rw c.extras_so_far.ensures (record {
       few = l.invariant.1;
       limit = l.invariant.2;
-      rest = λ more. so_far (goal.at.returns-then-not-fits c).After-fits more ∙ extra_closed (left (goal.at.returns-then-not-fits c).After-fits) 1 (count (goal.at.returns-then-not-fits c).After-fits) more (limit (goal.at.returns-then-not-fits c).After-fits more ∙ not-true _ c.if-not-fits.true-raw);
+      rest = over a.page.now a.first a.posted l.count a.announced _ so_far c.fits.ensures c.if-not-fits.true;
       gso_size = l.invariant.3;
       gso_type = l.invariant.4;
     })
 
 pub returns-then-count-posted : goal.returns-then-count-posted
-returns-then-count-posted c = let l = c.loop-another in
+returns-then-count-posted c = let a = c.args in
+    let l = c.loop-another in
+    let so_far = λ (more : Bool). l.invariant.0 more ∙ ap (λ b. scan (behind a.page.now a.first a.posted (l.count + 1)) 1 l.count b more) c.loop-another-test.true in
     rw c.extras_so_far-then-count-posted.ensures (record {
       few = l.invariant.1;
       limit = l.invariant.2;
-      rest = λ more. so_far (goal.at.returns-then-count-posted c).After-fits more ∙ extra_end (left (goal.at.returns-then-count-posted c).After-fits) 1 (count (goal.at.returns-then-count-posted c).After-fits) more (limit (goal.at.returns-then-count-posted c).After-fits more ∙ not-false _ c.if-not-fits.false-raw) (behind_none (page (goal.at.returns-then-count-posted c).After-fits) (first (goal.at.returns-then-count-posted c).After-fits) (posted (goal.at.returns-then-count-posted c).After-fits) (count (goal.at.returns-then-count-posted c).After-fits + 1) (omega (arith, c.if-count-posted.true)));
+      rest = ended a.page.now a.first a.posted l.count a.announced _ so_far c.fits.ensures c.if-not-fits.false c.if-count-posted.true;
       gso_size = l.invariant.3;
       gso_type = l.invariant.4;
     })
 
 pub returns-then-extra-ne-GSO : goal.returns-then-extra-ne-GSO
-returns-then-extra-ne-GSO c = let l = c.loop-another in
+returns-then-extra-ne-GSO c = let a = c.args in
+    let l = c.loop-another in
+    let so_far = λ (more : Bool). l.invariant.0 more ∙ ap (λ b. scan (behind a.page.now a.first a.posted (l.count + 1)) 1 l.count b more) c.loop-another-test.true in
     rw c.extras_so_far-then-extra-ne-GSO.ensures (record {
       few = l.invariant.1;
       limit = l.invariant.2;
-      rest = λ more. so_far (goal.at.returns-then-extra-ne-GSO c).After-fits more ∙ extra_bad (left (goal.at.returns-then-extra-ne-GSO c).After-fits) 1 (count (goal.at.returns-then-extra-ne-GSO c).After-fits) more (right (goal.at.returns-then-extra-ne-GSO c).After-at-extra more) _ _ (next (goal.at.returns-then-extra-ne-GSO c).After-at-extra) (kind_other _ c.at-extra.result c.at-extra.ensures c.if-extra-ne-GSO.true);
+      rest = bad a.page.now a.first a.posted l.count a.announced _ so_far c.fits.ensures c.if-not-fits.false _ (omega (arith, c.if-count-posted.false)) c.ahead.ensures
+          (kind_other _ c.at-extra.result c.at-extra.ensures c.if-extra-ne-GSO.true);
       gso_size = l.invariant.3;
       gso_type = l.invariant.4;
     })
 
 pub loop-another-preserved : goal.loop-another-preserved
-loop-another-preserved c = let another = sym (c.another_follows-another.ensures ∙ another_bit _ c.at-extra.result c.at-extra.ensures) in (
-  λ more. so_far (goal.at.loop-another-preserved c).After-fits more ∙ extra_next (left (goal.at.loop-another-preserved c).After-fits) 1 (count (goal.at.loop-another-preserved c).After-fits) more (right (goal.at.loop-another-preserved c).After-at-extra more) _ _ (next (goal.at.loop-another-preserved c).After-at-extra) (kind_extra _ c.at-extra.result c.at-extra.ensures c.if-extra-ne-GSO.false)
-      ∙ ap (λ b. scan (behind (page (goal.at.loop-another-preserved c).After-fits) (first (goal.at.loop-another-preserved c).After-fits) (posted (goal.at.loop-another-preserved c).After-fits) (count (goal.at.loop-another-preserved c).After-fits + 1 + 1)) 1 (count (goal.at.loop-another-preserved c).After-fits + 1) b more) another,
-  omega (arith, fits_on (goal.at.loop-another-preserved c).After-at-extra),
-  sym c.fits.ensures ∙ not-false _ c.if-not-fits.false-raw,
-  gso_size_field _ c.at-extra.result c.at-extra.ensures ∙ sym (gso_size_next (page (goal.at.loop-another-preserved c).After-fits) (first (goal.at.loop-another-preserved c).After-fits) (posted (goal.at.loop-another-preserved c).After-fits) (n (goal.at.loop-another-preserved c).After-at-extra) (count (goal.at.loop-another-preserved c).After-fits) (fits_on (goal.at.loop-another-preserved c).After-at-extra) c.ahead.ensures),
-  gso_type_field _ c.at-extra.result c.at-extra.ensures ∙ sym (gso_type_next (page (goal.at.loop-another-preserved c).After-fits) (first (goal.at.loop-another-preserved c).After-fits) (posted (goal.at.loop-another-preserved c).After-fits) (n (goal.at.loop-another-preserved c).After-at-extra) (count (goal.at.loop-another-preserved c).After-fits) (fits_on (goal.at.loop-another-preserved c).After-at-extra) c.ahead.ensures),
-)
+loop-another-preserved c = let a = c.args in
+    let l = c.loop-another in
+    let n = c.ahead.result in
+    let extra = c.at-extra in
+    let k : l.count + 1 < a.posted = omega (arith, c.if-count-posted.false) in
+    let so_far = λ (more : Bool). l.invariant.0 more ∙ ap (λ b. scan (behind a.page.now a.first a.posted (l.count + 1)) 1 l.count b more) c.loop-another-test.true in (
+      scanned_on a.page.now a.first a.posted l.count a.announced _ so_far c.fits.ensures c.if-not-fits.false n k c.ahead.ensures
+          (kind_extra _ extra.result extra.ensures c.if-extra-ne-GSO.false)
+          (sym (c.another_follows-another.ensures ∙ another_bit _ extra.result extra.ensures)),
+      omega arith,
+      sym c.fits.ensures ∙ c.if-not-fits.false,
+      gso_size_field _ extra.result extra.ensures ∙ sym (gso_size_next a.page.now a.first a.posted n l.count k c.ahead.ensures),
+      gso_type_field _ extra.result extra.ensures ∙ sym (gso_type_next a.page.now a.first a.posted n l.count k c.ahead.ensures),
+    )
 
 pub returns : goal.returns
 returns c = let a = c.args in

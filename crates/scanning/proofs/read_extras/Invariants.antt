@@ -1,11 +1,8 @@
 -- `read_extras` meets its contract. The invariant: what the scan makes of all slots behind the first, it makes of those
 -- that are left, behind the extras counted so far. Each way out is one law of `Loop`.
-use mathlib.Core.Path.{◌≡◌, ◌∙◌}
-use mathlib.Core.List.{◌∷◌}
+use mathlib.Core.Path.{◌≡◌}
 use mathlib.Core.Bool.{Bool, true}
-use Prim.Native.Nat.{◌+◌, ◌-◌, ◌≤◌, ◌<◌}
-use native.Mathlib.Omega.{arith}
-use borrow.Author.Rules.{rules}
+use Prim.Native.Nat.{◌+◌, ◌-◌, ◌≤◌}
 use Rattle.netif.specs.Slot.{transmit_slots}
 use Rattle.grammar.specs.Grammar.{within}
 use Rattle.grammar.specs.Divide.{scan}

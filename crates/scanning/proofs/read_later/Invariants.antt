@@ -1,12 +1,10 @@
 -- `read_later` meets its contract. The invariant: what the scan makes of all slots behind the extras, it makes of those that
 -- are left, behind the later data slots counted so far; their sizes are in the table and in the sum. Each way out is one law of `Loop`.
-use mathlib.Core.Path.{◌≡◌, ◌∙◌}
-use mathlib.Core.List.{◌∷◌, map}
+use mathlib.Core.Path.{◌≡◌}
+use mathlib.Core.List.{map}
 use mathlib.Core.Bool.{true, false}
-use Prim.Native.Nat.{◌+◌, ◌-◌, ◌*◌, ◌≤◌, ◌<◌}
-use native.Mathlib.Omega.{arith}
+use Prim.Native.Nat.{◌+◌, ◌-◌, ◌*◌, ◌≤◌}
 use lib.ListN.{length}
-use borrow.Author.Rules.{rules}
 use Rattle.words.specs.Word.{splice}
 use Rattle.netif.specs.Slot.{size, transmit_slots}
 use Rattle.grammar.specs.Grammar.{within}
