@@ -3,7 +3,6 @@ use mathlib.Core.Path.{sym, ap, ◌∙◌}
 use mathlib.Core.Bool.{not}
 use Rattle.grammar.specs.Divide.{alone}
 use Rattle.grammar.proofs.Loop.{more_bit, follows_bit}
-use borrow.Author.Rules.{rules}
 use Rattle.divider.proofs.is_alone.Goals as goal
 
 pub returns-then-more : goal.returns-then-more

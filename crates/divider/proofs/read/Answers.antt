@@ -2,7 +2,6 @@
 -- ends where a stage ends it.
 use mathlib.Core.Path.{refl, sym, ◌∙◌}
 use borrow.Author.Rules.{rules}
-use borrow.Author.Tests.{not-true}
 use Rattle.grammar.proofs.Reading.{read_beginning, read_misshapen, extras_read, after_extras, no_extras}
 use Rattle.divider.proofs.read.Goals as goal
 
@@ -11,7 +10,7 @@ read_rest-requires c = let a = c.args in
     let h = c.at-head in
     let m = c.more_data-more in
     let x = c.extra_follows-announced in
-    let none = sym (not-true x.result c.if-not-announced.true-raw) ∙ x.ensures in (
+    let none = sym c.if-not-announced.true ∙ x.ensures in (
       search rules,
       search rules,
       c.requires.3,
@@ -27,7 +26,7 @@ read_rest-requires-in-Whole c = let a = c.args in
       search rules,
       search rules,
       c.requires.3,
-      after_extras a.page.now a.first a.posted h.result x.result m.result e.result c.requires.1 h.ensures x.ensures m.ensures e.ensures c.enum_told-in-Whole-1.given.1,
+      after_extras a.page.now a.first a.posted h.result x.result m.result e.result c.requires.1 h.ensures x.ensures m.ensures e.ensures c.in-Whole.is,
     )
 
 pub returns-in-Misshapen : goal.returns-in-Misshapen
@@ -36,7 +35,7 @@ returns-in-Misshapen c = let a = c.args in
     let m = c.more_data-more in
     let x = c.extra_follows-announced in
     let e = c.read_extras-extras in
-    read_misshapen _ _ _ (extras_read a.page.now a.first a.posted h.result x.result m.result e.result c.requires.1 h.ensures x.ensures m.ensures e.ensures _ c.enum_told-1.given.1)
+    read_misshapen _ _ _ (extras_read a.page.now a.first a.posted h.result x.result m.result e.result c.requires.1 h.ensures x.ensures m.ensures e.ensures _ c.in-Misshapen.is)
 
 pub returns-in-Beginning : goal.returns-in-Beginning
 returns-in-Beginning c = let a = c.args in
@@ -44,4 +43,4 @@ returns-in-Beginning c = let a = c.args in
     let m = c.more_data-more in
     let x = c.extra_follows-announced in
     let e = c.read_extras-extras in
-    read_beginning _ _ _ (extras_read a.page.now a.first a.posted h.result x.result m.result e.result c.requires.1 h.ensures x.ensures m.ensures e.ensures _ c.enum_told-in-Beginning-1.given.1)
+    read_beginning _ _ _ (extras_read a.page.now a.first a.posted h.result x.result m.result e.result c.requires.1 h.ensures x.ensures m.ensures e.ensures _ c.in-Beginning.is)
