@@ -1,6 +1,6 @@
 -- What document 01 fixes for one packet: its cause for 7, its parts, its frame and its replies.
 -- A packet is given as its slots p and the number e of its extras, which stand behind the first slot.
-use Rattle.std.specs.Prelude.{List, [], ◌∷◌, ◌++◌, map, not, ◌||◌, ℕ, zero, suc, ◌+◌, ◌-◌, ltb, eqb}
+use Rattle.std.specs.Prelude.{List, [], ◌∷◌, ◌++◌, map, not, ◌||◌, ℕ, zero, suc, ◌-◌, ltb, eqb}
 use Rattle.grant.specs.Grant.{in_range, fit_transmit, window_part}
 use Rattle.answer.specs.declared.Verdict.{Verdict}
 use Rattle.answer.specs.declared.Verdict.TheVariants.{Good}
