@@ -1,8 +1,6 @@
 -- `reply_errors` meets its contract. The invariant: after i turns the page has the first i replies. Each turn is one more
 -- (`errors_next`), made of a request that the replies before it left as it was.
-use borrow.Author.Rules.{rules}
-use mathlib.Core.Path.{◌≡◌, refl}
-use Prim.Native.Nat.{◌-◌, ◌≤◌}
+use mathlib.Core.Path.{refl}
 use native.Mathlib.Omega.{arith}
 use Rattle.receive.proofs.Pieces.{errors_next, errors_last}
 use Rattle.pieces.proofs.reply_errors.Goals as goal

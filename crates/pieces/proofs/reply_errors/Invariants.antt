@@ -1,10 +1,8 @@
 -- `reply_errors` meets its contract. The invariant: after i turns the page has the first i replies. Each turn is one more
 -- (`errors_next`), made of a request that the replies before it left as it was.
-use borrow.Author.Rules.{rules}
 use mathlib.Core.Path.{◌≡◌}
 use Prim.Native.Nat.{◌-◌, ◌≤◌}
 use lib.ListN.{length, take}
-use native.Mathlib.Omega.{arith}
 use Rattle.ring.specs.Ring.{with_slots}
 use Rattle.netif.specs.Slot.{receive_slots}
 use Rattle.receive.specs.Put.{error_replies}

@@ -1,8 +1,6 @@
 -- `reply_pieces` meets its contract. The invariant: after i turns the page has the first i replies. Each turn is one more
 -- (`pieces_next`), whose flags and status are those of piece i.
-use borrow.Author.Rules.{rules}
-use mathlib.Core.Path.{◌≡◌, refl}
-use Prim.Native.Nat.{◌-◌, ◌≤◌}
+use mathlib.Core.Path.{refl}
 use native.Mathlib.Omega.{arith}
 use Rattle.receive.proofs.Pieces.{pieces_next, pieces_last}
 use Rattle.pieces.proofs.reply_pieces.Goals as goal

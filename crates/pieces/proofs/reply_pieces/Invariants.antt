@@ -1,10 +1,8 @@
 -- `reply_pieces` meets its contract. The invariant: after i turns the page has the first i replies. Each turn is one more
 -- (`pieces_next`), whose flags and status are those of piece i.
-use borrow.Author.Rules.{rules}
 use mathlib.Core.Path.{◌≡◌}
 use Prim.Native.Nat.{◌-◌, ◌≤◌}
 use lib.ListN.{length, take}
-use native.Mathlib.Omega.{arith}
 use Rattle.ring.specs.Ring.{with_slots}
 use Rattle.netif.specs.Slot.{receive_slots}
 use Rattle.receive.specs.Put.{piece_replies}

@@ -1,10 +1,7 @@
 -- `scatter` meets its contract. The invariant: the window that all pieces make is what the pieces left make of the window now,
 -- and the pages left lie in the window. One turn is `scatter_turn`, and so is the last piece.
-use borrow.Author.Rules.{rules}
-use mathlib.Core.Path.{◌≡◌, ◌∙◌}
-use mathlib.Core.List.{◌∷◌}
-use Prim.Native.Nat.{◌+◌, ◌-◌, ◌*◌, ◌≤◌, ◌<◌}
-use native.Mathlib.Omega.{arith}
+use mathlib.Core.Path.{◌≡◌}
+use Prim.Native.Nat.{◌-◌, ◌*◌, ◌≤◌}
 use lib.ListN.{length, take, drop}
 use Rattle.receive.specs.Put.{scatter}
 use Rattle.receive.specs.Stages.{AllUsable}
