@@ -1,4 +1,4 @@
-// The C interface of the calls.
+// The calls, with the numbers, slices and words that C has.
 #![tactic(auto)]
 
 ghost use Rattle.interface.specs.Interface.{TakeCallLeaves, FinishCallLeaves, ReceiveLeaves, PostLeaves};
@@ -6,8 +6,7 @@ ghost use Rattle.interface.specs.Interface.{TakeCallLeaves, FinishCallLeaves, Re
 use held::Held;
 
 // Takes the packet at the counter of a transmit ring, and holds it in a record.
-#[unsafe(no_mangle)]
-pub extern "C" fn tollmeander_transmit_take(
+pub fn tollmeander_transmit_take(
     consumed: &mut u32,
     replied: &mut u32,
     halted: &mut u32,
@@ -33,8 +32,7 @@ pub extern "C" fn tollmeander_transmit_take(
 }
 
 // Finishes the packet of a ticket with a status, 0, -1 or -2 as 32-bit two's complement.
-#[unsafe(no_mangle)]
-pub extern "C" fn tollmeander_transmit_finish(
+pub fn tollmeander_transmit_finish(
     consumed: u32,
     replied: &mut u32,
     ring: &mut [u8],
@@ -53,8 +51,7 @@ pub extern "C" fn tollmeander_transmit_finish(
 }
 
 // Puts a frame into the pages of the requests at the counter of a receive ring.
-#[unsafe(no_mangle)]
-pub extern "C" fn tollmeander_receive_put(
+pub fn tollmeander_receive_put(
     consumed: &mut u32,
     halted: &mut u32,
     ring: &mut [u8],
@@ -78,8 +75,7 @@ pub extern "C" fn tollmeander_receive_put(
 }
 
 // Lays a frame into the pages that references name, and posts it on a transmit ring as one packet.
-#[unsafe(no_mangle)]
-pub extern "C" fn tollmeander_transmit_post(
+pub fn tollmeander_transmit_post(
     replies_read: u32,
     ring: &mut [u8],
     grants: &[u8],
