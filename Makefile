@@ -15,9 +15,9 @@ include live.mk
 SECONDS ?= 600
 
 # Proves what changed since the last time, and compiles.
-SOURCES := crates.txt $(shell find crates \( -name '*.rt' -o -name '*.antt' \) 2>/dev/null)
+SOURCES := crates.txt $(shell find crates -name out -prune -o \( -name '*.rt' -o -name '*.antt' \) -print 2>/dev/null)
 target/staticlib/libtollmeander.a: $(SOURCES)
-	rt staticlib tollmeander
+	tools/archive.sh
 
 test:
 	.ci/run
@@ -27,4 +27,4 @@ soak: target/staticlib/libtollmeander.a
 	    run --seconds $(SECONDS) --seed $$(date +%s)
 
 clean:
-	rm -rf target build tests/target
+	rm -rf target build tests/target crates/*/out
