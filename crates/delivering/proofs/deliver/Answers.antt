@@ -1,7 +1,6 @@
 -- `deliver` meets its contract: the pieces, the replies, then rsp_prod behind them, are what the definition consumes (`delivered`).
 use native.Mathlib.Omega.{arith}
 use lib.ListN.{length}
-use borrow.Author.Rules.{rules}
 use Rattle.receive.proofs.Calls.{needed_few, needed_cover, needed_reach, delivered}
 use Rattle.delivering.proofs.deliver.Goals as goal
 

@@ -1,8 +1,6 @@
 -- `judge` meets its contract. The invariant: the verdict on all requests is that on those left, and the table starts with the pages
 -- of those passed. Each way out is one law of `Requests`.
-use borrow.Author.Rules.{rules}
-use mathlib.Core.Path.{◌≡◌, refl, ◌∙◌}
-use Prim.Native.Nat.{◌+◌, ◌-◌, ◌≤◌}
+use mathlib.Core.Path.{refl, ◌∙◌}
 use native.Mathlib.Nat.{add-zero, sub-zero}
 use lib.ListN.{length-set}
 use native.Mathlib.Omega.{arith}
@@ -18,14 +16,14 @@ returns-in_default c = let a = c.args in
     let n = c.ahead in
     let r = c.at-request in
     judged_unfit a.grants.now a.window.now a.ring.now a.first a.count n.result l.i n.ensures r.result r.ensures
-    l.pages l.invariant.1 l.invariant.2 c.loop-i-test.true (rw c.enum_told-1.given.1 at c.page_of.ensures)
+    l.pages l.invariant.1 l.invariant.2 c.loop-i-test.true c.in_default.ensures
 
 pub loop-i-preserved : goal.loop-i-preserved
 loop-i-preserved c = let a = c.args in
     let l = c.loop-i in
     let n = c.ahead in
     let r = c.at-request in
-    let fit = rw c.page-1.given.1 at c.page_of.ensures in (
+    let fit = c.in-Fit.ensures in (
       omega arith,
       simp length-set (omega arith),
       l.invariant.2 ∙ judge_fit a.grants.now a.window.now a.ring.now a.first a.count n.result l.i n.ensures r.result r.ensures _ fit (omega arith),

@@ -1,10 +1,8 @@
 -- `judge` meets its contract. The invariant: the verdict on all requests is that on those left, and the table starts with the pages
 -- of those passed. Each way out is one law of `Requests`.
-use borrow.Author.Rules.{rules}
-use mathlib.Core.Path.{◌≡◌, ◌∙◌}
+use mathlib.Core.Path.{◌≡◌}
 use Prim.Native.Nat.{◌+◌, ◌-◌, ◌≤◌}
 use lib.ListN.{length, take}
-use native.Mathlib.Omega.{arith}
 use Rattle.receive.specs.Put.{pages_named, judge}
 use Rattle.netif.specs.Slot.{receive_slots}
 use Rattle.delivering.proofs.judge.Given as goal

@@ -1,5 +1,4 @@
 -- `page_of` meets its contract: the lookup's own promise.
-use borrow.Author.Rules.{rules}
 use Rattle.delivering.proofs.page_of.Goals as goal
 
 pub returns : goal.returns

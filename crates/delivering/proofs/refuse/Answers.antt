@@ -1,5 +1,4 @@
 -- `refuse` meets its contract: the replies, then rsp_prod behind them, are what the definition consumes (`refused`).
-use borrow.Author.Rules.{rules}
 use Rattle.receive.proofs.Calls.{refused}
 use Rattle.delivering.proofs.refuse.Goals as goal
 

@@ -1,30 +1,9 @@
 -- `settle` meets its contract: what the judge found decides between `refuse` and `deliver`, in the definition as in the code.
-use borrow.Author.Rules.{rules}
 use mathlib.Core.Path.{refl}
-use mathlib.Core.List.{List}
-use Prim.Native.Nat.{ℕ, ◌≤◌}
 use native.Mathlib.Omega.{arith}
 use lib.ListN.{length}
-use Rattle.receive.specs.Put.{needed}
 use Rattle.receive.proofs.Calls.{needed_few, good_pages, settled_bad, settled_good}
 use Rattle.delivering.proofs.settle.Goals as goal
-use Rattle.delivering.proofs.settle.Goals.{After-judge}
-
-module _ (j : After-judge) where
-  abbrev table : List ℕ
-  table = j.args.grants.now
-
-  abbrev window : List ℕ
-  window = j.args.window.now
-
-  abbrev page : List ℕ
-  page = j.args.ring.now
-
-  abbrev frame : List ℕ
-  frame = j.args.frame.now
-
-  few : needed (length frame) ≤ 16
-  few = needed_few (length frame) j.requires.1
 
 pub judge-requires : goal.judge-requires
 judge-requires c = let a = c.args in
@@ -32,16 +11,19 @@ judge-requires c = let a = c.args in
     (omega arith, omega (arith, needed_few (length a.frame.now) p.1), refl)
 
 pub refuse-requires : goal.refuse-requires
-refuse-requires c = (start c.requires.0, omega (arith, few (goal.at.refuse-requires c).After-judge, start c.requires.2))
+refuse-requires c = (c.requires.0, omega (arith, needed_few (length c.args.frame.now) c.requires.1, c.requires.2))
 
 pub deliver-requires : goal.deliver-requires
-deliver-requires c = let p = start c.requires in
-    (p.0, c.judge.ensures.sized, p.1, p.2, good_pages (table (goal.at.deliver-requires c).After-judge) (window (goal.at.deliver-requires c).After-judge) (page (goal.at.deliver-requires c).After-judge) start c.args.old start c.args.count _ c.judge.result c.judge.ensures c.enum_told-1.given.1)
+deliver-requires c = let p = c.requires in
+    let a = c.args in
+    (p.0, c.judge.ensures.sized, p.1, p.2, good_pages a.grants.now a.window.now a.ring.now a.old a.count _ c.judge.result c.judge.ensures c.in-Good.is)
 
 pub returns-in-Bad : goal.returns-in-Bad
-returns-in-Bad c = settled_bad (table (goal.at.returns-in-Bad c).After-judge) (window (goal.at.returns-in-Bad c).After-judge) (page (goal.at.returns-in-Bad c).After-judge) start c.args.old start c.args.count _ c.judge.result c.judge.ensures (frame (goal.at.returns-in-Bad c).After-judge) _ _ _ _ _ c.cause-1.given.1
-    (c.refuse.ensures (window (goal.at.returns-in-Bad c).After-judge))
+returns-in-Bad c = let a = c.args in
+    settled_bad a.grants.now a.window.now a.ring.now a.old a.count _ c.judge.result c.judge.ensures a.frame.now _ _ _ _ _ c.in-Bad.is
+    (c.refuse.ensures a.window.now)
 
 pub returns-in-Good : goal.returns-in-Good
-returns-in-Good c = settled_good (table (goal.at.returns-in-Good c).After-judge) (window (goal.at.returns-in-Good c).After-judge) (page (goal.at.returns-in-Good c).After-judge) start c.args.old start c.args.count _ c.judge.result c.judge.ensures (frame (goal.at.returns-in-Good c).After-judge) _ _ _ c.enum_told-1.given.1
+returns-in-Good c = let a = c.args in
+    settled_good a.grants.now a.window.now a.ring.now a.old a.count _ c.judge.result c.judge.ensures a.frame.now _ _ _ c.in-Good.is
     c.deliver.ensures
