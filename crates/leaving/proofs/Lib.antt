@@ -1,3 +1,2 @@
 -- The laws of the definitions.
 pub mod Going
-pub mod Contracts
