@@ -1,4 +1,2 @@
 -- The laws of the definitions.
 pub mod Answers
-pub mod Element
-pub mod Contracts
