@@ -1,16 +1,13 @@
 -- `judge_later` meets its contract. The invariant: the verdict on all later data slots is that on those left, since those passed
 -- are good; their pages and offsets are in the tables. Each way out is one law of `Plans`.
-use mathlib.Core.Path.{◌≡◌, ◌∙◌}
+use mathlib.Core.Path.{◌≡◌}
 use mathlib.Core.List.{map}
-use Prim.Native.Nat.{suc, ◌+◌, ◌-◌, ◌≤◌, ◌<◌}
-use native.Mathlib.Omega.{arith}
-use borrow.Author.Rules.{rules}
+use Prim.Native.Nat.{suc, ◌+◌, ◌-◌, ◌≤◌}
 use Rattle.words.specs.Word.{splice}
 use Rattle.ring.specs.Ring.{wadd}
 use Rattle.netif.specs.Slot.{offset, transmit_slots}
 use Rattle.packet.specs.Judge.{judge_later}
 use Rattle.packet.specs.Stages.{slot_page, later_at}
-use Rattle.packet.specs.declared.Part.TheVariants as part
 use Rattle.planning.proofs.judge_later.Given as goal
 
 abbrev pub invariant-loop-i : goal.invariant-loop-i
