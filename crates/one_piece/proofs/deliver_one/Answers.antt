@@ -1,5 +1,4 @@
 -- `deliver_one` meets its contract: page, reply, then rsp_prod behind it, are what the definition consumes (`one_delivered`).
-use borrow.Author.Rules.{rules}
 use Rattle.receive.proofs.Calls.{one_delivered}
 use Rattle.one_piece.proofs.deliver_one.Goals as goal
 
