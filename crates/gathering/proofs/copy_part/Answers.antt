@@ -1,5 +1,4 @@
 -- `gathering::copy_part` meets its contract: the copy into the frame's part, and the frame put together again around it.
-use borrow.Author.Rules.{rules}
 use mathlib.Core.Path.{ap, ◌∙◌}
 use mathlib.Core.List.{◌++◌}
 use Prim.Native.Nat.{◌+◌, ◌-◌}

@@ -1,9 +1,7 @@
 -- `gathering::gather` meets its contract: where the loop stands at i, the first i parts stand joined at the front of the frame buffer. A
 -- turn is a step of `Joining`.
 use mathlib.Core.Path.{◌≡◌, refl, sym}
-use Prim.Native.Nat.{◌-◌, ◌≤◌}
 use native.Mathlib.Omega.{arith}
-use borrow.Author.Rules.{rules}
 use Rattle.words.proofs.Word.{splice_none}
 use Rattle.packet.proofs.Joining.{next_fits, next_stands}
 use Rattle.gathering.proofs.gather.Goals as goal

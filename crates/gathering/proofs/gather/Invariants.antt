@@ -1,9 +1,6 @@
 -- `gathering::gather` meets its contract: where the loop stands at i, the first i parts stand joined at the front of the frame buffer. A
 -- turn is a step of `Joining`.
-use mathlib.Core.Path.{◌≡◌}
 use Prim.Native.Nat.{◌-◌, ◌≤◌}
-use native.Mathlib.Omega.{arith}
-use borrow.Author.Rules.{rules}
 use Rattle.packet.proofs.Joining.{Standing}
 use Rattle.gathering.proofs.gather.Given as goal
 
