@@ -2,7 +2,7 @@
 use mathlib.Core.Path.{◌≡◌, refl, sym, ap, ◌∙◌}
 use mathlib.Core.Logic.{◌≢◌, ⊎_elim}
 use mathlib.Core.List.{List, [], ◌∷◌}
-use mathlib.Core.Bool.{Bool, true, false, not, cond, ◌&&◌}
+use mathlib.Core.Bool.{Bool, true, false, not, ◌&&◌}
 use Prim.Native.Nat.{ℕ, suc, ◌+◌, ◌≤◌, ◌<◌}
 use native.Mathlib.Omega.{arith}
 use native.Mathlib.Numerals.{add-one}
@@ -10,9 +10,7 @@ use lib.ListN.{length, get_or, drop}
 use lib.Dec.{leb, eqb}
 use lib.Seq.{drop-cons, drop-length}
 use borrow.Author.Tests.{eq-eqb, ne_eqb, leb-true, le-leb, not-true}
-use Rattle.words.specs.Lists.{all}
 use Rattle.words.proofs.Word.{either, and_both, clash}
-use Rattle.ring.specs.Ring.{wrap}
 use Rattle.ring.proofs.Counters.{not_moved}
 use Rattle.held.specs.declared.Held.{Held}
 use Rattle.held.specs.Records.{free, in_use, full, all_free, first_free}

@@ -1,5 +1,5 @@
 -- `fits_at` meets its contract: its tests are the definition's, in their order. Each way out is one law of `Fits`.
-use Rattle.std.proofs.Common.{◌≡◌, true, false, sym, ◌∙◌}
+use Rattle.std.proofs.Common.{sym, ◌∙◌}
 use Rattle.fitting.proofs.Fits.{fits_long, fits_count, fits_status, fits_oldest, fits_later}
 use Rattle.fitting.proofs.fits_at.Goals as goal
 

@@ -1,6 +1,5 @@
 -- `unheld_tally` meets its contract: field by field, the definition's.
 use mathlib.Core.Path.{refl}
-use borrow.Author.Rules.{rules}
 use Rattle.glancing.proofs.unheld_tally.Goals as goal
 
 pub returns : goal.returns

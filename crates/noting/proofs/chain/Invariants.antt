@@ -1,5 +1,5 @@
 -- `chain` meets its contract. The invariant: what the walk tells from the oldest slot on, it tells from here on. Each way out is one law of `Chaining`.
-use Rattle.std.proofs.Common.{◌-◌, arith, rules}
+use Rattle.std.proofs.Common.{◌-◌}
 use Rattle.noting.proofs.Chaining.{Met}
 use Rattle.noting.proofs.chain.Given as goal
 

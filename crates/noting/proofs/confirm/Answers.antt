@@ -1,5 +1,5 @@
 -- `confirm` meets its contract: the sum of slots, then the walk. Each way out is one law of `Chaining`.
-use Rattle.std.proofs.Common.{sym, ◌∙◌, rules}
+use Rattle.std.proofs.Common.{sym, ◌∙◌}
 use Rattle.noting.proofs.Chaining.{confirm_all, confirm_gap, confirm_sum}
 use Rattle.noting.proofs.confirm.Goals as goal
 
