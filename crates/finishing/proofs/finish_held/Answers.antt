@@ -1,5 +1,5 @@
 -- `finish_held` meets its contract. Each way out is one law of `Answers`.
-use Rattle.std.proofs.Common.{◌≡◌, ℕ, ◌≤◌, sym, arith, ◌∙◌}
+use Rattle.std.proofs.Common.{◌≡◌, ℕ, ◌≤◌, sym, arith}
 use Rattle.ring.specs.Ring.{wadd}
 use Rattle.ring.proofs.Counters.{posted_of}
 use Rattle.held.specs.Valid.{between}

@@ -1,7 +1,6 @@
 -- `reply_for` meets its contract: replies carry the low bits of the status (`low_status`).
 use mathlib.Core.Path.{sym, ap, ◌∙◌}
 use Prim.Native.Nat.{ℕ, ◌%◌}
-use borrow.Author.Rules.{rules}
 use Rattle.transmit.specs.Take.{replies_to}
 use Rattle.transmit.proofs.Replies.{low_status}
 use Rattle.ring.specs.Ring.{wadd}

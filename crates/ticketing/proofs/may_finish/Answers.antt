@@ -1,5 +1,5 @@
 -- `may_finish` meets its contract.
-use Rattle.std.proofs.Common.{refl, rules, eq-eqb, ne_eqb}
+use Rattle.std.proofs.Common.{refl, eq-eqb, ne_eqb}
 use Rattle.ticketing.proofs.may_finish.Goals as goal
 
 pub returns-then-h-eq0 : goal.returns-then-h-eq0
