@@ -51,7 +51,7 @@ read_step page at left r o some h k =
 
 pub returns-in-Whole : goal.returns-in-Whole
 returns-in-Whole c = let r = c.read-stands in
-    read_step c.args.page.now c.args.at c.args.left r.result (front.Whole c.stands-1.given.0.0) c.requires.1 r.ensures.answer c.in-Whole.is
+    read_step c.args.page.now c.args.at c.args.left r.result (front.Whole c.in-Whole.outline) c.requires.1 r.ensures.answer c.in-Whole.is
 
 pub returns-in-Beginning : goal.returns-in-Beginning
 returns-in-Beginning c = let r = c.read-stands in
