@@ -15,7 +15,7 @@ search-init c = (omega arith, c.requires.0, refl, refl, refl)
 pub returns-in_default : goal.returns-in_default
 returns-in_default c = let a = c.args in
     let v = c.search in
-    let unfit = rw c.enum_told-1.given.1 at c.fit_to_write.ensures in
+    let unfit = rw c.in_default.is at c.fit_to_write.ensures in
     record {
       answer = sym (v.invariant.4 ∙ search_unfit a.grants.now a.window.now a.references.now a.count c.requires.2 v.pages v.i c.search-test.true unfit);
       sized = v.invariant.1;
@@ -25,7 +25,7 @@ returns-in_default c = let a = c.args in
 pub loop-j-init : goal.loop-j-init
 loop-j-init c = let a = c.args in
     let v = c.search in
-    let fit = rw c.page-1.given.1 at c.fit_to_write.ensures in
+    let fit = rw c.in-Fit.is at c.fit_to_write.ensures in
     let t = c.search-test.true in
     (omega arith, v.invariant.2, v.invariant.4 ∙ search_enters a.grants.now a.window.now a.references.now a.count c.requires.2 v.pages v.i t _ fit (omega (arith, v.invariant.1, t, c.requires.1)))
 
@@ -41,9 +41,9 @@ pub search-preserved : goal.search-preserved
 search-preserved c = let a = c.args in
     let v = c.search in
     let w = c.loop-j in
-    let x = c.page-1.given.0.0 in
+    let x = c.in-Fit.page in
     let t = c.search-test.true in
-    let fit = rw c.page-1.given.1 at c.fit_to_write.ensures in
+    let fit = rw c.in-Fit.is at c.fit_to_write.ensures in
     let some : v.i < length v.pages = omega (arith, t, v.invariant.1, c.requires.1) in (
       omega (arith, t),
       length-set v.pages v.i x ∙ v.invariant.1,
