@@ -27,5 +27,5 @@ pub put_pair-requires-2 : goal.put_pair-requires-2
 put_pair-requires-2 c = omega (arith, fits (goal.at.put_pair-requires-2 c).After-place-at)
 
 pub returns : goal.returns
-returns c = let a = start c.args in
-    data_stored a.ring.now _ _ _ a.n c.place-at.result start c.requires c.place-at.ensures a.gref a.flags a.size c.put_u32.ensures c.put_pair.ensures c.put_pair-2.ensures
+returns c = let a = c.args in
+    data_stored a.ring.now _ _ _ a.n c.place-at.result c.requires c.place-at.ensures a.gref a.flags a.size c.put_u32.ensures c.put_pair.ensures c.put_pair-2.ensures

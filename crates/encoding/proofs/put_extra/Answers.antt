@@ -27,5 +27,5 @@ pub put_u32-requires-2 : goal.put_u32-requires-2
 put_u32-requires-2 c = omega (arith, fits (goal.at.put_u32-requires-2 c).After-place-at)
 
 pub returns : goal.returns
-returns c = let a = start c.args in
-    extra_stored a.ring.now _ _ _ a.n c.place-at.result start c.requires c.place-at.ensures a.size a.kind (search rules) c.put_pair.ensures c.put_u32.ensures c.put_u32-2.ensures
+returns c = let a = c.args in
+    extra_stored a.ring.now _ _ _ a.n c.place-at.result c.requires c.place-at.ensures a.size a.kind (search rules) c.put_pair.ensures c.put_u32.ensures c.put_u32-2.ensures
