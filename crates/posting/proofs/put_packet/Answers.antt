@@ -19,11 +19,11 @@ pub overflow_add-extras : goal.overflow_add-extras
 overflow_add-extras c = omega (arith, few (goal.at.overflow_add-extras c).After-extras_of-extras)
 
 pub overflow_add-count : goal.overflow_add-count
-overflow_add-count c = omega (arith, few (goal.at.overflow_add-count c).After-extras_of-extras, start c.requires.2)
+overflow_add-count c = omega (arith, few (goal.at.overflow_add-count c).After-extras_of-extras, c.requires.2)
 
 pub returns : goal.returns
-returns c = let a = start c.args in
-    let p = start c.requires in
+returns c = let a = c.args in
+    let p = c.requires in
     rw (used_cons a.references.now a.count p.1 p.3)
     (packet_written a.ring.now p.0 a.gso (get_or a.references.now 0 0) (drop 1 (take a.count a.references.now)) a.frame.now a.count _ _ (used_count a.references.now a.count p.1 p.3)
     c.extras_of-extras.ensures c.flags.ensures _ _ _ _ _ _ _ c.requests-old.ensures c.put_data.ensures c.ahead.ensures c.put_extras.ensures
