@@ -10,8 +10,8 @@ returns-in-Absent c = rw c.in-Absent.is refl
 
 pub returns-in-Good : goal.returns-in-Good
 unfolding bad_gso
-returns-in-Good c = rw c.in-Good.is (sym (ap is_bad (sym c.judge_gso_lem.ensures ∙ c.in-Good.is)))
+returns-in-Good c = rw c.in-Given.is (sym (ap is_bad (sym c.judge_gso.ensures ∙ c.in-Good.is)))
 
 pub returns-in-Bad : goal.returns-in-Bad
 unfolding bad_gso
-returns-in-Bad c = rw c.in-Bad.is (sym (ap is_bad (sym c.judge_gso_lem.ensures ∙ c.in-Bad.is)))
+returns-in-Bad c = rw c.in-Given.is (sym (ap is_bad (sym c.judge_gso.ensures ∙ c.in-Bad.is)))

@@ -12,4 +12,4 @@ cut-rest : (answer : Divided) (cuts : Cuts) (kind : Ending) (r x y : ℕ) → an
 cut-rest answer cuts kind r x y e p q h = rw (e, ← p, ← q) h
 
 pub returns-in-Cut : goal.returns-in-Cut
-returns-in-Cut c = cut-rest c.args.answer _ c.args.kind _ _ _ c.in-Cut.is c.number_of_lem.ensures c.number_of-in-Cut.ensures c.same.ensures
+returns-in-Cut c = cut-rest c.args.answer _ c.args.kind _ _ _ c.in-Cut.is c.number_of.ensures c.number_of-in-Cut.ensures c.same.ensures
