@@ -2,7 +2,6 @@
 use borrow.Author.Rules.{rules}
 use borrow.Author.Tests.{eq-eqb, ne_eqb}
 use mathlib.Core.Path.{◌≡◌, ap, ◌∙◌}
-use mathlib.Core.Logic.{⊎_elim}
 use mathlib.Core.List.{List}
 use Prim.Native.Nat.{ℕ, ◌+◌, ◌-◌, ◌≤◌}
 use native.Mathlib.Omega.{arith}
@@ -10,6 +9,7 @@ use native.Mathlib.Numerals.{add-one}
 use lib.ListN.{get_or}
 use Rattle.readers.specs.Compare.{agreeing}
 use Rattle.readers.proofs.agreed.Goals as goal
+use Rattle.readers.proofs.agreed.Goals.{then-a-i, else-a-i}
 
 module _ (a b : List ℕ) (i same : ℕ) (h : same ≡ agreeing i a b) where
   -- one more place: the same in both, or not
@@ -21,10 +21,10 @@ module _ (a b : List ℕ) (i same : ℕ) (h : same ≡ agreeing i a b) where
 
 pub loop-i-preserved : goal.loop-i-preserved
 loop-i-preserved c = let l = c.loop-i in
-    ⊎_elim
-    (λ w. (w.1 ∙ agreeing-same _ _ l.i l.same l.invariant.0 w.0.taken, omega arith, omega arith))
-    (λ w. (w.1 ∙ agreeing-other _ _ l.i l.same l.invariant.0 w.0.left, omega arith, omega arith))
-    c.if-a-i.branch
+    elim c.if-a-i.branch [
+      then-a-i w ↦ (w.same-is ∙ agreeing-same _ _ l.i l.same l.invariant.0 w.if-a-i.true, omega arith, omega arith)
+    | else-a-i w ↦ (w.same-is ∙ agreeing-other _ _ l.i l.same l.invariant.0 w.if-a-i.false, omega arith, omega arith)
+    ]
 
 pub returns : goal.returns
 returns c = let a = c.args in
