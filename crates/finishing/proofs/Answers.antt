@@ -37,31 +37,31 @@ use Rattle.ticketing.proofs.Tickets.{ticket_none, ticket_can, ticket_finish, tic
 
 -- ---- replies leave the guest's wish for an event
 
-notify-one : (page : List ℕ) → length page ≡ 4096 → (c slots e status old new : ℕ) → notify Replies (replies_to page c slots e status) old new ≡ notify Replies page old new
+notify_one : (page : List ℕ) → length page ≡ 4096 → (c slots e status old new : ℕ) → notify Replies (replies_to page c slots e status) old new ≡ notify Replies page old new
 unfolding replies_to
-notify-one page size c slots e status old new =
+notify_one page size c slots e status old new =
     notify_replied 12 256 (omega arith) page (omega arith) c (replies_of e (transmit_slots page c slots) status) (replies_short e (transmit_slots page c slots) status) Replies old new
 
-notify-for : (gone : List Held) (page : List ℕ) → length page ≡ 4096 → (c old new : ℕ) → notify Replies (replies_for page c gone) old new ≡ notify Replies page old new
-notify-for [] page size c old new = refl
-notify-for (x ∷ gone) page size c old new =
-    notify-for gone (replies_to page c x.slots x.extras x.status) (to_length page size c x.slots x.extras x.status) (wadd c x.slots) old new
-    ∙ notify-one page size c x.slots x.extras x.status old new
+notify_for : (gone : List Held) (page : List ℕ) → length page ≡ 4096 → (c old new : ℕ) → notify Replies (replies_for page c gone) old new ≡ notify Replies page old new
+notify_for [] page size c old new = refl
+notify_for (x ∷ gone) page size c old new =
+    notify_for gone (replies_to page c x.slots x.extras x.status) (to_length page size c x.slots x.extras x.status) (wadd c x.slots) old new
+    ∙ notify_one page size c x.slots x.extras x.status old new
 
 -- ---- the ways out of a publication
 
 module _ (page : List ℕ) (replied slots : ℕ) where
-  pub published-none : replied < wrap → slots ≡ 0 → Published page replied slots (Done slots false) page
-  published-none small e =
+  pub published_none : replied < wrap → slots ≡ 0 → Published page replied slots (Done slots false) page
+  published_none small e =
       let same : wadd replied slots ≡ replied = ap (wadd replied) e ∙ wadd_zero replied small in
       record {
         answer = ap (Done slots) (sym (ap (notify Replies page replied) same ∙ notify_none Replies page replied));
         moved = rw (eq-eqb slots 0 e) refl;
       }
 
-  pub published-some : (slots ≡ 0 → ⊥) → (new : ℕ) → new ≡ wadd replied slots → (notified : Bool) (after : List ℕ) → ProducerMoved Replies page replied new after notified
+  pub published_some : (slots ≡ 0 → ⊥) → (new : ℕ) → new ≡ wadd replied slots → (notified : Bool) (after : List ℕ) → ProducerMoved Replies page replied new after notified
       → Published page replied slots (Done slots notified) after
-  published-some h new e notified after m = record {
+  published_some h new e notified after m = record {
     answer = ap (Done slots) (m.notifies ∙ ap (notify Replies page replied) e);
     moved = rw (ne_eqb slots 0 h) (m.page ∙ ap (with_producer Replies page) e);
   }
@@ -69,10 +69,10 @@ module _ (page : List ℕ) (replied slots : ℕ) where
 -- ---- packets have left
 
 -- rsp_prod is moved exactly if some did
-published-page : (gone : List Held) (c : ℕ) → Leaves c gone → (page : List ℕ) (replied : ℕ)
+published_page : (gone : List Held) (c : ℕ) → Leaves c gone → (page : List ℕ) (replied : ℕ)
     → cond (eqb (slots_held gone) 0) (replies_for page c gone) (with_producer Replies (replies_for page c gone) replied) ≡ replied_page page c gone replied
-published-page [] c g page replied = refl
-published-page (x ∷ gone) c g page replied =
+published_page [] c g page replied = refl
+published_page (x ∷ gone) c g page replied =
     let some = in_use_some x g.1 in
     rw (ne_eqb (slots_held (x ∷ gone)) 0 (λ z. omega arith)) refl
 
@@ -81,24 +81,24 @@ module _ (c r : ℕ) (l : List Held) (page : List ℕ) (size : length page ≡ 4
   kept = settle_keeps c r l (rw apart at (covers_split n r l i.covered))
       (λ j u. record { counts = each_split (λ x. is_count x.slots x.extras) l i.counts j u; status = each_split (λ x. is_status x.status) l i.statuses j u })
 
-  replied-is : (settle c r l).replied ≡ wadd r (slots_held (settle c r l).gone)
-  replied-is = ⊎_elim (λ g. g.1 ∙ sym (wadd_zero r small) ∙ ap (wadd r) (ap slots_held (sym g.0))) (λ g. g) kept.counter
+  replied_is : (settle c r l).replied ≡ wadd r (slots_held (settle c r l).gone)
+  replied_is = ⊎_elim (λ g. g.1 ∙ sym (wadd_zero r small) ∙ ap (wadd r) (ap slots_held (sym g.0))) (λ g. g) kept.counter
 
-  finished-is : (k : ℕ) (m : List Held) (written : List ℕ) (z : Finished) (after : List ℕ) → Left (release n r l) r page k m written → Published written r k z after
+  finished_is : (k : ℕ) (m : List Held) (written : List ℕ) (z : Finished) (after : List ℕ) → Left (release n r l) r page k m written → Published written r k z after
       → FinishGives (finished c r page l) r z after m
   unfolding finished settle
-  finished-is k m written z after left p =
+  finished_is k m written z after left p =
       let s : Released = settle c r l in
       let e : release n r l ≡ settle c r l = ap (λ (j : ℕ). release j r l) apart in
       let slots : k ≡ slots_held (settle c r l).gone = left.slots ∙ ap (λ (x : Released). slots_held x.gone) e in
       let pages : written ≡ replies_for page r (settle c r l).gone = left.page ∙ ap (λ (x : Released). replies_for page r x.gone) e in
-      let counter : wadd r k ≡ (settle c r l).replied = ap (wadd r) slots ∙ sym replied-is in
+      let counter : wadd r k ≡ (settle c r l).replied = ap (wadd r) slots ∙ sym replied_is in
       let notified : notify Replies written r (wadd r k) ≡ notify Replies page r (settle c r l).replied
-      = (λ j. notify Replies (pages j) r (counter j)) ∙ notify-for (settle c r l).gone page size r r (settle c r l).replied in
+      = (λ j. notify Replies (pages j) r (counter j)) ∙ notify_for (settle c r l).gone page size r r (settle c r l).replied in
       record {
         report = ap report_of p.answer ∙ (λ j. finished_report (slots j) (notified j));
         replied = ap (replied_after r) p.answer ∙ counter;
-        page = p.moved ∙ (λ j. cond (eqb (slots j) 0) (pages j) (with_producer Replies (pages j) (counter j))) ∙ published-page (settle c r l).gone r kept.gone page (settle c r l).replied;
+        page = p.moved ∙ (λ j. cond (eqb (slots j) 0) (pages j) (with_producer Replies (pages j) (counter j))) ∙ published_page (settle c r l).gone r kept.gone page (settle c r l).replied;
         list = left.list ∙ ap (λ (x : Released). x.list) e;
       }
 
@@ -108,14 +108,14 @@ module _ (l : List Held) (c r : ℕ) (page : List ℕ) (t status : ℕ) where
   unchanged : (n : ℕ) (a : Finished) → report_of a ≡ plain n → replied_after r a ≡ r → FinishGives (unfinished n r page l) r a page l
   unchanged n a p q = record { report = p; replied = q; page = refl; list = refl }
 
-  pub finish-page : (length page ≡ 4096 → ⊥) → FinishGives (transmit_finish c r page l t status) r BadPage page l
+  pub finish_page : (length page ≡ 4096 → ⊥) → FinishGives (transmit_finish c r page l t status) r BadPage page l
   unfolding transmit_finish
-  finish-page h = rw (ne_eqb (length page) 4096 h) (unchanged 1 BadPage refl refl)
+  finish_page h = rw (ne_eqb (length page) 4096 h) (unchanged 1 BadPage refl refl)
 
   module _ (size : length page ≡ 4096) where
-    pub finish-records : valid c r l ≡ false → FinishGives (transmit_finish c r page l t status) r BadRecords page l
+    pub finish_records : valid c r l ≡ false → FinishGives (transmit_finish c r page l t status) r BadRecords page l
     unfolding transmit_finish
-    finish-records h = rw (eq-eqb (length page) 4096 size, h) (unchanged 17 BadRecords refl refl)
+    finish_records h = rw (eq-eqb (length page) 4096 size, h) (unchanged 17 BadRecords refl refl)
 
     pub finish_valid : valid c r l ≡ true → (a : Finished) (after : List ℕ) (m : List Held) → FinishGives (finish_held c r page l t status) r a after m
         → FinishGives (transmit_finish c r page l t status) r a after m
@@ -126,8 +126,8 @@ module _ (l : List Held) (c r : ℕ) (page : List ℕ) (t status : ℕ) where
       refused : (can_finish l t && is_status status) ≡ false → FinishGives (finish_held c r page l t status) r BadTicket page l
       refused e = rw e (unchanged 15 BadTicket refl refl)
 
-      pub finish-unheld : length l ≤ p → FinishGives (finish_held c r page l t status) r BadTicket page l
-      finish-unheld k = refused (rw (ticket_none n r l index i t word p place k) refl)
+      pub finish_unheld : length l ≤ p → FinishGives (finish_held c r page l t status) r BadTicket page l
+      finish_unheld k = refused (rw (ticket_none n r l index i t word p place k) refl)
 
       module _ (k : p < length l) (x : Held) (here : x ≡ get_or l p free) (b : Bool) (may : b ≡ (eqb x.finished 0 && is_status status)) where
         test : b ≡ (can_finish l t && is_status status)
@@ -136,20 +136,20 @@ module _ (l : List Held) (c r : ℕ) (page : List ℕ) (t status : ℕ) where
             ∙ ap (λ (y : Held). eqb y.finished 0 && is_status status) here
             ∙ ap (λ (z : Bool). z && is_status status) (ticket_can n r l index i t word p place k)
 
-        pub finish-refused : b ≡ false → FinishGives (finish_held c r page l t status) r BadTicket page l
-        finish-refused z = refused (sym test ∙ z)
+        pub finish_refused : b ≡ false → FinishGives (finish_held c r page l t status) r BadTicket page l
+        finish_refused z = refused (sym test ∙ z)
 
         module _ (z : b ≡ true) (m : List Held) (e : m ≡ set l p (finished_as status (get_or l p free))) where
           both : (can_finish l t ≡ true) × (is_status status ≡ true)
           both = and_both (can_finish l t) (is_status status) (sym test ∙ z)
 
-          finish-is : m ≡ finish l t status
-          finish-is = e ∙ ticket_finish n r l index i t word p place k status
+          finish_is : m ≡ finish l t status
+          finish_is = e ∙ ticket_finish n r l index i t word p place k status
 
-          pub finish-indexed : Indexed n r m index
-          finish-indexed = rw finish-is (ticket_indexed n r l index i t word p place k status both.1)
+          pub finish_indexed : Indexed n r m index
+          finish_indexed = rw finish_is (ticket_indexed n r l index i t word p place k status both.1)
 
           pub finish_done : r < wrap → (q : ℕ) (last : List Held) (written : List ℕ) (a : Finished) (after : List ℕ) → Left (release n r m) r page q last written
               → Published written r q a after → FinishGives (finish_held c r page l t status) r a after last
           finish_done small q last written a after left published =
-              rw (both.0, both.1, ← finish-is) (finished-is c r m page size small n apart index finish-indexed q last written a after left published)
+              rw (both.0, both.1, ← finish_is) (finished_is c r m page size small n apart index finish_indexed q last written a after left published)

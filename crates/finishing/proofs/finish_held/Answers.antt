@@ -4,7 +4,7 @@ use Rattle.ring.specs.Ring.{wadd}
 use Rattle.ring.proofs.Counters.{posted_of}
 use Rattle.held.specs.Valid.{between}
 use Rattle.held.proofs.Cover.{covers_split}
-use Rattle.finishing.proofs.Answers.{finish-unheld, finish-refused, finish-indexed, finish_done}
+use Rattle.finishing.proofs.Answers.{finish_unheld, finish_refused, finish_indexed, finish_done}
 use Rattle.finishing.proofs.finish_held.Goals as goal
 use Rattle.finishing.proofs.finish_held.Goals.{Start}
 
@@ -21,17 +21,17 @@ find-at-requires c = few (goal.at.find-at-requires c).Start
 
 pub returns-then-list-at : goal.returns-then-list-at
 returns-then-list-at c = let a = c.args in λ n apart.
-    finish-unheld a.list.now n a.replied a.ring.now a.ticket a.status c.requires.0 a.slots apart a.index.now c.requires.1 c.ranges.ticket.fits c.find-at.result c.find-at.ensures c.if-list-at.true
+    finish_unheld a.list.now n a.replied a.ring.now a.ticket a.status c.requires.0 a.slots apart a.index.now c.requires.1 c.ranges.ticket.fits c.find-at.result c.find-at.ensures c.if-list-at.true
 
 pub returns-then-not-may_finish : goal.returns-then-not-may_finish
 returns-then-not-may_finish c = let a = c.args in λ n apart.
-    finish-refused a.list.now n a.replied a.ring.now a.ticket a.status c.requires.0 a.slots apart a.index.now c.requires.1 c.ranges.ticket.fits c.find-at.result c.find-at.ensures
+    finish_refused a.list.now n a.replied a.ring.now a.ticket a.status c.requires.0 a.slots apart a.index.now c.requires.1 c.ranges.ticket.fits c.find-at.result c.find-at.ensures
     c.if-list-at.false c.record-h.result c.record-h.ensures c.may_finish.result c.may_finish.ensures c.if-not-may_finish.true
 
 pub leave-left-requires : goal.leave-left-requires
 leave-left-requires c = let a = c.args in (
   c.requires.0,
-  finish-indexed a.list.now (wadd a.replied a.slots) a.replied a.ring.now a.ticket a.status c.requires.0 a.slots (between_ahead a.replied a.slots (few (goal.at.leave-left-requires c).Start)) a.index.now c.requires.1 c.ranges.ticket.fits c.find-at.result c.find-at.ensures
+  finish_indexed a.list.now (wadd a.replied a.slots) a.replied a.ring.now a.ticket a.status c.requires.0 a.slots (between_ahead a.replied a.slots (few (goal.at.leave-left-requires c).Start)) a.index.now c.requires.1 c.ranges.ticket.fits c.find-at.result c.find-at.ensures
       c.if-list-at.false c.record-h.result c.record-h.ensures c.may_finish.result c.may_finish.ensures c.if-not-may_finish.false c.finish.new.list c.finish.ensures,
 )
 

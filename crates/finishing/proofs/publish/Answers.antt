@@ -1,13 +1,13 @@
 -- `publish` meets its contract: where no slot is replied to the counter stays, and that is no event.
 use borrow.Author.Rules.{rules}
-use Rattle.finishing.proofs.Answers.{published-none, published-some}
+use Rattle.finishing.proofs.Answers.{published_none, published_some}
 use Rattle.finishing.proofs.publish.Goals as goal
 
 pub returns-then-slots-eq0 : goal.returns-then-slots-eq0
-returns-then-slots-eq0 c = let a = c.args in published-none a.ring.now a.replied a.slots (search rules) c.if-slots-eq0.true
+returns-then-slots-eq0 c = let a = c.args in published_none a.ring.now a.replied a.slots (search rules) c.if-slots-eq0.true
 
 pub returns : goal.returns
 returns c = let a = c.args in
     let new = c.ahead-new in
     let moved = c.publish-notify in
-    published-some a.ring.now a.replied a.slots c.if-slots-eq0.false new.result new.ensures moved.result _ moved.ensures
+    published_some a.ring.now a.replied a.slots c.if-slots-eq0.false new.result new.ensures moved.result _ moved.ensures
