@@ -23,7 +23,7 @@ use Rattle.transmit.specs.Take.{go_on, take_packet}
 use Rattle.transmit.specs.Stages.{take_whole}
 use Rattle.transmit.proofs.Settling.{plan_long, plan_inside, plan_joined, gives_refusal, gives_done, packet_no_room, packet_no_record, packet_done}
 use Rattle.settling.proofs.settle.Goals as goal
-use Rattle.settling.proofs.settle.Goals.{After-judge, After-offsets-1}
+use Rattle.settling.proofs.settle.Goals.{After-judge}
 
 module _ (j : After-judge) where
   abbrev q : Queue
@@ -57,13 +57,13 @@ module _ (j : After-judge) where
   count = sym (datas_count page q.consumed o.slots e j.requires.1.some)
 
   abbrev pages : List ℕ
-  pages = j.judge.last.1.1.1.1.0
+  pages = j.judge.new.pages
 
   abbrev offsets : List ℕ
-  offsets = j.judge.last.1.1.1.1.1.0
+  offsets = j.judge.new.offsets
 
   abbrev sizes : List ℕ
-  sizes = j.judge.last.1.1.1.0
+  sizes = j.judge.new.sizes
 
   -- it is bad
   spoils : (cause place : ℕ) → j.judge.result ≡ Bad cause place → (l : List Held)
@@ -85,30 +85,34 @@ module _ (j : After-judge) where
     is-frame = plan_joined table window e p pages offsets sizes (o.slots - e) count (j.judge.ensures.pages_are told) (j.judge.ensures.offsets_are told) (j.judge.ensures.parts_are told) good
 
 pub returns-then-frame-head : goal.returns-then-frame-head
-returns-then-frame-head c l lent = rw (packet_no_room (table (goal.at.returns-then-frame-head c).After-judge) (window (goal.at.returns-then-frame-head c).After-judge) (q (goal.at.returns-then-frame-head c).After-judge) (page (goal.at.returns-then-frame-head c).After-judge) (frame (goal.at.returns-then-frame-head c).After-judge) l (e (goal.at.returns-then-frame-head c).After-judge) (p (goal.at.returns-then-frame-head c).After-judge) (good (goal.at.returns-then-frame-head c).After-judge c.enum_told-1.given.1) (omega (arith, total (goal.at.returns-then-frame-head c).After-judge, c.if-frame-head.true)))
-    (gives_refusal 8 (q (goal.at.returns-then-frame-head c).After-judge) (page (goal.at.returns-then-frame-head c).After-judge) (frame (goal.at.returns-then-frame-head c).After-judge) l NoRoom refl refl refl)
+returns-then-frame-head c l lent = let j = (goal.at.returns-then-frame-head c).After-judge in
+    rw (packet_no_room (table j) (window j) (q j) (page j) (frame j) l (e j) (p j) (good j c.in-Good.is) (omega (arith, total j, c.if-frame-head.true)))
+    (gives_refusal 8 (q j) (page j) (frame j) l NoRoom refl refl refl)
 
 pub returns-then-full : goal.returns-then-full
-returns-then-full c l lent = rw (packet_no_record (table (goal.at.returns-then-full c).After-judge) (window (goal.at.returns-then-full c).After-judge) (q (goal.at.returns-then-full c).After-judge) (page (goal.at.returns-then-full c).After-judge) (frame (goal.at.returns-then-full c).After-judge) l (e (goal.at.returns-then-full c).After-judge) (p (goal.at.returns-then-full c).After-judge) (good (goal.at.returns-then-full c).After-judge c.enum_told-1.given.1) (omega (arith, total (goal.at.returns-then-full c).After-judge, c.if-frame-head.false)) (lent.fullness ∙ c.if-full.true))
-    (gives_refusal 14 (q (goal.at.returns-then-full c).After-judge) (page (goal.at.returns-then-full c).After-judge) (frame (goal.at.returns-then-full c).After-judge) l NoRecord refl refl refl)
+returns-then-full c l lent = let j = (goal.at.returns-then-full c).After-judge in
+    rw (packet_no_record (table j) (window j) (q j) (page j) (frame j) l (e j) (p j) (good j c.in-Good.is) (omega (arith, total j, c.if-frame-head.false)) (lent.fullness ∙ c.if-full.true))
+    (gives_refusal 14 (q j) (page j) (frame j) l NoRecord refl refl refl)
 
 pub gather-requires : goal.gather-requires
-gather-requires c = let told = c.enum_told-1.given.1 in (
-  omega (arith, start c.requires.1.some, start c.requires.1.datas),
-  (long (goal.at.gather-requires c).After-offsets-1 told).0,
-  (long (goal.at.gather-requires c).After-offsets-1 told).1,
-  (long (goal.at.gather-requires c).After-offsets-1 told).2,
-  inside (goal.at.gather-requires c).After-offsets-1 told,
-  omega (arith, ap length (is-frame (goal.at.gather-requires c).After-offsets-1 told), frame_length (table (goal.at.gather-requires c).After-offsets-1) (window (goal.at.gather-requires c).After-offsets-1) (e (goal.at.gather-requires c).After-offsets-1) (p (goal.at.gather-requires c).After-offsets-1) (good (goal.at.gather-requires c).After-offsets-1 told), total (goal.at.gather-requires c).After-offsets-1, c.if-frame-head.false),
+gather-requires c = let j = (goal.at.gather-requires c).After-judge in let told = c.in-Good.is in (
+  omega (arith, c.requires.1.some, c.requires.1.datas),
+  (long j told).0,
+  (long j told).1,
+  (long j told).2,
+  inside j told,
+  omega (arith, ap length (is-frame j told), frame_length (table j) (window j) (e j) (p j) (good j told), total j, c.if-frame-head.false),
 )
 
 pub returns-in-Bad : goal.returns-in-Bad
-returns-in-Bad c l lent = rw (spoils (goal.at.returns-in-Bad c).After-judge _ _ c.cause-1.given.1 l)
-    (c.refuse.ensures (table (goal.at.returns-in-Bad c).After-judge) (window (goal.at.returns-in-Bad c).After-judge) (frame (goal.at.returns-in-Bad c).After-judge) l lent)
+returns-in-Bad c l lent = let j = (goal.at.returns-in-Bad c).After-judge in
+    rw (spoils j _ _ c.in-Bad.is l)
+    (c.refuse.ensures (table j) (window j) (frame j) l lent)
 
 pub returns-else-full : goal.returns-else-full
-returns-else-full c l lent = let told = c.enum_told-1.given.1 in
+returns-else-full c l lent = let j = (goal.at.returns-else-full c).After-judge in
+    let told = c.in-Good.is in
     let room : full l ≡ false = lent.fullness ∙ c.if-full.false in
-    let written = c.gather.ensures ∙ ap (splice (frame (goal.at.returns-else-full c).After-offsets-1) 0) (is-frame (goal.at.returns-else-full c).After-offsets-1 told) in
-    rw (packet_done (table (goal.at.returns-else-full c).After-offsets-1) (window (goal.at.returns-else-full c).After-offsets-1) (q (goal.at.returns-else-full c).After-offsets-1) (page (goal.at.returns-else-full c).After-offsets-1) (frame (goal.at.returns-else-full c).After-offsets-1) l (e (goal.at.returns-else-full c).After-offsets-1) (p (goal.at.returns-else-full c).After-offsets-1) (good (goal.at.returns-else-full c).After-offsets-1 told) (omega (arith, total (goal.at.returns-else-full c).After-offsets-1, c.if-frame-head.false)) room, written)
-    (gives_done (table (goal.at.returns-else-full c).After-offsets-1) (window (goal.at.returns-else-full c).After-offsets-1) (page (goal.at.returns-else-full c).After-offsets-1) (frame (goal.at.returns-else-full c).After-offsets-1) (q (goal.at.returns-else-full c).After-offsets-1).consumed (q (goal.at.returns-else-full c).After-offsets-1).replied l (e (goal.at.returns-else-full c).After-offsets-1) (p (goal.at.returns-else-full c).After-offsets-1) _ (c.accept.ensures (p (goal.at.returns-else-full c).After-offsets-1) start c.requires.1.outline) (record { sound = lent.sound; fullness = room }))
+    let written = c.gather.ensures ∙ ap (splice (frame j) 0) (is-frame j told) in
+    rw (packet_done (table j) (window j) (q j) (page j) (frame j) l (e j) (p j) (good j told) (omega (arith, total j, c.if-frame-head.false)) room, written)
+    (gives_done (table j) (window j) (page j) (frame j) (q j).consumed (q j).replied l (e j) (p j) _ (c.accept.ensures (p j) c.requires.1.outline) (record { sound = lent.sound; fullness = room }))
