@@ -41,16 +41,16 @@ module _ (l : After-judge_slot) where
   abbrev p : List Slot
   p = packet_one page first
 
-  right : judge_sizes l.at.result.size 0 ≡ Good
-  right = sym (sizes_right l.at.result.size 0 (omega (arith, l.if-size-lt14.false)) (omega arith))
+  right : judge_sizes l.at-head.result.size 0 ≡ Good
+  right = sym (sizes_right l.at-head.result.size 0 (omega (arith, l.if-size-lt14.false)) (omega arith))
 
   fits : total_of p ≤ length l.args.frame.now
-  fits = omega (arith, alone_total page first l.at.result l.at.ensures, l.if-frame-size.false)
+  fits = omega (arith, alone_total page first l.at-head.result l.at-head.ensures, l.if-frame-size.false)
 
   found : l.judge_slot.result ≡ slot_part table window 0 slot (own_part 0 p)
   found =
-      l.judge_slot.ensures slot l.at.ensures
-      ∙ ap (slot_part table window 0 slot) (own_is page first l.at.result l.at.ensures)
+      l.judge_slot.ensures slot l.at-head.ensures
+      ∙ ap (slot_part table window 0 slot) (own_is page first l.at-head.result l.at-head.ensures)
 
 pub returns-then-size-lt14 : goal.returns-then-size-lt14
 returns-then-size-lt14 c = none _ _ _ _ _
@@ -59,11 +59,11 @@ pub returns-then-frame-size : goal.returns-then-frame-size
 returns-then-frame-size c = none _ _ _ _ _
 
 pub copy_part-requires : goal.copy_part-requires
-copy_part-requires c = let w = c.page-1.given in
-    let at = slot_at (table (goal.at.copy_part-requires c).After-judge_slot) (window (goal.at.copy_part-requires c).After-judge_slot) 0 (slot (goal.at.copy_part-requires c).After-judge_slot) (own_part 0 (p (goal.at.copy_part-requires c).After-judge_slot)) w.0.0 (sym w.1 ∙ found (goal.at.copy_part-requires c).After-judge_slot) in
-    let inside = slot_inside (table (goal.at.copy_part-requires c).After-judge_slot) (window (goal.at.copy_part-requires c).After-judge_slot) 0 (slot (goal.at.copy_part-requires c).After-judge_slot) (own_part 0 (p (goal.at.copy_part-requires c).After-judge_slot)) at.0 in (
+copy_part-requires c = let l = (goal.at.copy_part-requires c).After-judge_slot in
+    let at = slot_at (table l) (window l) 0 (slot l) (own_part 0 (p l)) c.in-At.page (sym c.in-At.is ∙ found l) in
+    let inside = slot_inside (table l) (window l) 0 (slot l) (own_part 0 (p l)) at.0 in (
       omega (arith, ap (λ x. 4096 * x + 4096) at.1, inside.0),
-      omega (arith, offset_is (page (goal.at.copy_part-requires c).After-judge_slot) (first (goal.at.copy_part-requires c).After-judge_slot) d c.at-head.result d c.at-head.ensures, own_is (page (goal.at.copy_part-requires c).After-judge_slot) (first (goal.at.copy_part-requires c).After-judge_slot) d c.at-head.result d c.at-head.ensures, inside.1),
+      omega (arith, offset_is (page l) (first l) c.at-head.result c.at-head.ensures, own_is (page l) (first l) c.at-head.result c.at-head.ensures, inside.1),
       omega (arith, c.if-frame-size.false),
     )
 
@@ -71,11 +71,11 @@ pub returns-in-Bad : goal.returns-in-Bad
 returns-in-Bad c = none _ _ _ _ _
 
 pub returns-in-At : goal.returns-in-At
-returns-in-At c = let w = c.page-1.given in
-    let at = slot_at (table (goal.at.returns-in-At c).After-judge_slot) (window (goal.at.returns-in-At c).After-judge_slot) 0 (slot (goal.at.returns-in-At c).After-judge_slot) (own_part 0 (p (goal.at.returns-in-At c).After-judge_slot)) w.0.0 (sym w.1 ∙ found (goal.at.returns-in-At c).After-judge_slot) in
+returns-in-At c = let l = (goal.at.returns-in-At c).After-judge_slot in
+    let at = slot_at (table l) (window l) 0 (slot l) (own_part 0 (p l)) c.in-At.page (sym c.in-At.is ∙ found l) in
     record {
       not = λ h. no_confusion cc;
-      good = λ h. alone_good (page (goal.at.returns-in-At c).After-judge_slot) (first (goal.at.returns-in-At c).After-judge_slot) d c.at-head.result d c.at-head.ensures (table (goal.at.returns-in-At c).After-judge_slot) (window (goal.at.returns-in-At c).After-judge_slot) (right (goal.at.returns-in-At c).After-judge_slot) at.0;
-      fits = λ h. fits (goal.at.returns-in-At c).After-judge_slot;
-      copied = λ h. c.copy_part.ensures ∙ ap (splice start c.args.frame.now 0) (alone_frame (page (goal.at.returns-in-At c).After-judge_slot) (first (goal.at.returns-in-At c).After-judge_slot) d c.at-head.result d c.at-head.ensures (table (goal.at.returns-in-At c).After-judge_slot) (window (goal.at.returns-in-At c).After-judge_slot) w.0.0 at.1);
+      good = λ h. alone_good (page l) (first l) c.at-head.result c.at-head.ensures (table l) (window l) (right l) at.0;
+      fits = λ h. fits l;
+      copied = λ h. c.copy_part.ensures ∙ ap (splice c.args.frame.now 0) (alone_frame (page l) (first l) c.at-head.result c.at-head.ensures (table l) (window l) c.in-At.page at.1);
     }

@@ -52,40 +52,53 @@ module _ (d : After-at-head) where
   spoils cause place bad l = ap (take_packet table window q page frame l 0 p) bad
 
 module _ (l : After-judge_slot) where
-  right : judge_sizes l.at-head.result.size 0 ≡ Good
-  right = sym l.judge_sizes.ensures ∙ l.enum_told-1.given.1
+  abbrev lone : Slot
+  lone = transmit_slot l.args.ring.now l.args.first
 
-  found : l.judge_slot.result ≡ slot_part (table ?After-at-head) (window ?After-at-head) 0 (slot ?After-at-head) (own_part 0 (p ?After-at-head))
+  abbrev own : ℕ
+  own = own_part 0 (packet_one l.args.ring.now l.args.first)
+
+  right : judge_sizes l.at-head.result.size 0 ≡ Good
+  right = sym l.judge_sizes.ensures ∙ l.in-Good.is
+
+  found : l.judge_slot.result ≡ slot_part l.args.grants.now l.args.window.now 0 lone own
   found =
-      l.judge_slot.ensures (slot ?After-at-head) l.at-head.ensures
-      ∙ ap (slot_part (table ?After-at-head) (window ?After-at-head) 0 (slot ?After-at-head)) (own_is (page ?After-at-head) (q ?After-at-head).consumed l.at-head.result l.at-head.ensures)
+      l.judge_slot.ensures lone l.at-head.ensures
+      ∙ ap (slot_part l.args.grants.now l.args.window.now 0 lone) (own_is l.args.ring.now l.args.first l.at-head.result l.at-head.ensures)
 
 pub refuse-requires : goal.refuse-requires
-refuse-requires c = ready (goal.at.refuse-requires c).After-at-head _ c.outline_of.ensures
+refuse-requires c = let d = (goal.at.refuse-requires c).After-at-head in
+    ready d _ c.outline_of.ensures
 
 pub refuse-requires-in-Bad-judge_slot : goal.refuse-requires-in-Bad-judge_slot
-refuse-requires-in-Bad-judge_slot c = ready (goal.at.refuse-requires-in-Bad-judge_slot c).After-at-head _ c.outline_of-in-Bad-judge_slot.ensures
+refuse-requires-in-Bad-judge_slot c = let d = (goal.at.refuse-requires-in-Bad-judge_slot c).After-at-head in
+    ready d _ c.outline_of-in-Bad-judge_slot.ensures
 
 pub accept_alone-requires : goal.accept_alone-requires
-accept_alone-requires c = let w = c.page-1.given in
-    let at = slot_at (table (goal.at.accept_alone-requires c).After-at-head) (window (goal.at.accept_alone-requires c).After-at-head) 0 (slot (goal.at.accept_alone-requires c).After-at-head) (own_part 0 (p (goal.at.accept_alone-requires c).After-at-head)) w.0.0 (sym w.1 ∙ found (goal.at.accept_alone-requires c).After-judge_slot) in
-    let inside = slot_inside (table (goal.at.accept_alone-requires c).After-at-head) (window (goal.at.accept_alone-requires c).After-at-head) 0 (slot (goal.at.accept_alone-requires c).After-at-head) (own_part 0 (p (goal.at.accept_alone-requires c).After-at-head)) at.0 in (
+accept_alone-requires c = let d = (goal.at.accept_alone-requires c).After-at-head in
+    let j = (goal.at.accept_alone-requires c).After-judge_slot in
+    let at = slot_at (table d) (window d) 0 (slot d) (own_part 0 (p d)) c.in-At.page (sym c.in-At.is ∙ found j) in
+    let inside = slot_inside (table d) (window d) 0 (slot d) (own_part 0 (p d)) at.0 in (
       omega (arith, ap (λ x. 4096 * x + 4096) at.1, inside.0),
-      omega (arith, offset_is (page (goal.at.accept_alone-requires c).After-at-head) (q (goal.at.accept_alone-requires c).After-at-head).consumed c.at-head.result c.at-head.ensures, own_is (page (goal.at.accept_alone-requires c).After-at-head) (q (goal.at.accept_alone-requires c).After-at-head).consumed c.at-head.result c.at-head.ensures, inside.1),
+      omega (arith, offset_is (page d) (q d).consumed c.at-head.result c.at-head.ensures, own_is (page d) (q d).consumed c.at-head.result c.at-head.ensures, inside.1),
     )
 
 pub returns-in-Bad : goal.returns-in-Bad
-returns-in-Bad c l lent = let short = alone_short (page (goal.at.returns-in-Bad c).After-at-head) (q (goal.at.returns-in-Bad c).After-at-head).consumed c.at-head.result c.at-head.ensures (table (goal.at.returns-in-Bad c).After-at-head) (window (goal.at.returns-in-Bad c).After-at-head) _ _ (sym c.judge_sizes.ensures ∙ c.cause-1.given.1) in
-    rw (spoils (goal.at.returns-in-Bad c).After-at-head _ _ short l)
-    ((rw c.outline_of.ensures at c.refuse.ensures) (table (goal.at.returns-in-Bad c).After-at-head) (window (goal.at.returns-in-Bad c).After-at-head) (frame (goal.at.returns-in-Bad c).After-at-head) l lent)
+returns-in-Bad c l lent = let d = (goal.at.returns-in-Bad c).After-at-head in
+    let short = alone_short (page d) (q d).consumed c.at-head.result c.at-head.ensures (table d) (window d) _ _ (sym c.judge_sizes.ensures ∙ c.in-Bad.is) in
+    rw (spoils d _ _ short l)
+    ((rw c.outline_of.ensures at c.refuse.ensures) (table d) (window d) (frame d) l lent)
 
 pub returns-in-Bad-judge_slot : goal.returns-in-Bad-judge_slot
-returns-in-Bad-judge_slot c k lent = let bad = slot_bad (table (goal.at.returns-in-Bad-judge_slot c).After-at-head) (window (goal.at.returns-in-Bad-judge_slot c).After-at-head) 0 (slot (goal.at.returns-in-Bad-judge_slot c).After-at-head) (own_part 0 (p (goal.at.returns-in-Bad-judge_slot c).After-at-head)) _ _ (sym c.cause-in-Bad-judge_slot-1.given.1 ∙ found (goal.at.returns-in-Bad-judge_slot c).After-judge_slot) in
-    rw (spoils (goal.at.returns-in-Bad-judge_slot c).After-at-head _ _ (alone_bad (page (goal.at.returns-in-Bad-judge_slot c).After-at-head) (q (goal.at.returns-in-Bad-judge_slot c).After-at-head).consumed c.at-head.result c.at-head.ensures (table (goal.at.returns-in-Bad-judge_slot c).After-at-head) (window (goal.at.returns-in-Bad-judge_slot c).After-at-head) (right (goal.at.returns-in-Bad-judge_slot c).After-judge_slot) _ _ bad) k)
-    ((rw c.outline_of-in-Bad-judge_slot.ensures at c.refuse-in-Bad-judge_slot.ensures) (table (goal.at.returns-in-Bad-judge_slot c).After-at-head) (window (goal.at.returns-in-Bad-judge_slot c).After-at-head) (frame (goal.at.returns-in-Bad-judge_slot c).After-at-head) k lent)
+returns-in-Bad-judge_slot c k lent = let d = (goal.at.returns-in-Bad-judge_slot c).After-at-head in
+    let j = (goal.at.returns-in-Bad-judge_slot c).After-judge_slot in
+    let bad = slot_bad (table d) (window d) 0 (slot d) (own_part 0 (p d)) _ _ (sym c.in-Bad-judge_slot.is ∙ found j) in
+    rw (spoils d _ _ (alone_bad (page d) (q d).consumed c.at-head.result c.at-head.ensures (table d) (window d) (right j) _ _ bad) k)
+    ((rw c.outline_of-in-Bad-judge_slot.ensures at c.refuse-in-Bad-judge_slot.ensures) (table d) (window d) (frame d) k lent)
 
 pub returns-in-At : goal.returns-in-At
-returns-in-At c k lent = let w = c.page-1.given in
-    let at = slot_at (table (goal.at.returns-in-At c).After-at-head) (window (goal.at.returns-in-At c).After-at-head) 0 (slot (goal.at.returns-in-At c).After-at-head) (own_part 0 (p (goal.at.returns-in-At c).After-at-head)) w.0.0 (sym w.1 ∙ found (goal.at.returns-in-At c).After-judge_slot) in
-    c.accept_alone.ensures (table (goal.at.returns-in-At c).After-at-head) (page (goal.at.returns-in-At c).After-at-head) (q (goal.at.returns-in-At c).After-at-head).consumed (q (goal.at.returns-in-At c).After-at-head).replied k lent c.at-head.ensures
-    (alone_good (page (goal.at.returns-in-At c).After-at-head) (q (goal.at.returns-in-At c).After-at-head).consumed c.at-head.result c.at-head.ensures (table (goal.at.returns-in-At c).After-at-head) (window (goal.at.returns-in-At c).After-at-head) (right (goal.at.returns-in-At c).After-judge_slot) at.0) at.1
+returns-in-At c k lent = let d = (goal.at.returns-in-At c).After-at-head in
+    let j = (goal.at.returns-in-At c).After-judge_slot in
+    let at = slot_at (table d) (window d) 0 (slot d) (own_part 0 (p d)) c.in-At.page (sym c.in-At.is ∙ found j) in
+    c.accept_alone.ensures (table d) (page d) (q d).consumed (q d).replied k lent c.at-head.ensures
+    (alone_good (page d) (q d).consumed c.at-head.result c.at-head.ensures (table d) (window d) (right j) at.0) at.1
