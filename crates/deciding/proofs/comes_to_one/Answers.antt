@@ -5,7 +5,7 @@ use Rattle.words.proofs.Word.{no_confusion}
 use Rattle.deciding.proofs.comes_to_one.Goals as goal
 use Rattle.deciding.proofs.comes_to_one.Goals.{Else-not-is_page}
 
-sized : (f : Else-not-is_page) → length f.before.before.before.args.ring.now ≡ 4096
+sized : (f : Else-not-is_page) → length f.args.ring.now ≡ 4096
 sized f = eqb-true _ 4096 (sym f.is_page.ensures ∙ not-false _ f.if-not-is_page.false-raw)
 
 pub returns-then-not-is_page : goal.returns-then-not-is_page
@@ -21,23 +21,27 @@ pub returns-then-queue : goal.returns-then-queue
 returns-then-queue c h = no_confusion cc
 
 pub overflows-requires : goal.overflows-requires
-overflows-requires c = sized (goal.at.overflows-requires c).Else-not-is_page
+overflows-requires c = let f = (goal.at.overflows-requires c).Else-not-is_page in
+    sized f
 
 pub returns-then-overflows : goal.returns-then-overflows
 returns-then-overflows c h = no_confusion cc
 
 pub posted-requires : goal.posted-requires
-posted-requires c = sized (goal.at.posted-requires c).Else-not-is_page
+posted-requires c = let f = (goal.at.posted-requires c).Else-not-is_page in
+    sized f
 
 pub returns-then-posted-eq0 : goal.returns-then-posted-eq0
 returns-then-posted-eq0 c h = no_confusion cc
 
 pub is_alone-requires : goal.is_alone-requires
-is_alone-requires c = sized (goal.at.is_alone-requires c).Else-not-is_page
+is_alone-requires c = let f = (goal.at.is_alone-requires c).Else-not-is_page in
+    sized f
 
 pub returns : goal.returns
-returns c h = record {
-  size = sized (goal.at.returns c).Else-not-is_page;
+returns c h = let f = (goal.at.returns c).Else-not-is_page in
+    record {
+  size = sized f;
   sound = not-false _ c.if-not-sound.false-raw;
   room = c.if-full.false;
   runs = c.if-queue.false;

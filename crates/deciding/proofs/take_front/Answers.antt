@@ -45,71 +45,83 @@ module _ (start : Start) where
 
 module _ (r : After-read) where
   abbrev first : ℕ
-  first = (q ?Start).consumed
+  first = r.args.first
+
+  abbrev ring : List ℕ
+  ring = r.args.ring.now
+
+  abbrev slots : List Slot
+  slots = transmit_slots ring first r.args.count
+
+  abbrev counters : Queue
+  counters = go_on first r.args.replied
 
   -- a whole packet with this outline
   module _ (o : Outline) (is : r.read.result ≡ front.Whole o) where
     abbrev d : ℕ
-    d = (front_whole (l ?Start) o (sym is ∙ r.read.ensures.answer)).0
+    d = (front_whole slots o (sym is ∙ r.read.ensures.answer)).0
 
     abbrev e : ℕ
-    e = (front_whole (l ?Start) o (sym is ∙ r.read.ensures.answer)).1
+    e = (front_whole slots o (sym is ∙ r.read.ensures.answer)).1
 
     extras : e ≡ o.extras
     extras =
-        let w = front_whole (l ?Start) o (sym is ∙ r.read.ensures.answer) in
-        sym (extras_are (page ?Start) first r.args.count r.requires.3 d e w.2 o w.3)
+        let w = front_whole slots o (sym is ∙ r.read.ensures.answer) in
+        sym (extras_are ring first r.args.count r.requires.3 d e w.2 o w.3)
 
-    packet : take (d + e) (l ?Start) ≡ packet_at (page ?Start) first o
+    packet : take (d + e) slots ≡ packet_at ring first o
     packet =
-        let w = front_whole (l ?Start) o (sym is ∙ r.read.ensures.answer) in
-        packet_whole (page ?Start) first r.args.count r.requires.3 d e w.2 o w.3
+        let w = front_whole slots o (sym is ∙ r.read.ensures.answer) in
+        packet_whole ring first r.args.count r.requires.3 d e w.2 o w.3
 
-    ready : Ready (page ?Start) first o
+    ready : Ready ring first o
     ready =
-        let w = front_whole (l ?Start) o (sym is ∙ r.read.ensures.answer) in
-        whole_ready (page ?Start) first r.args.count r.requires.3 d e w.2 o w.3
+        let w = front_whole slots o (sym is ∙ r.read.ensures.answer) in
+        whole_ready ring first r.args.count r.requires.3 d e w.2 o w.3
 
     abbrev later : List Slot
-    later = later_of o.extras (packet_at (page ?Start) first o)
+    later = later_of o.extras (packet_at ring first o)
 
     -- the table of their sizes
-    held : r.read.last.1.1.1.0 ≡ splice (replicate 18 0) 1 (map size later)
+    held : r.read.new.sizes ≡ splice (replicate 18 0) 1 (map size later)
     held =
-        let w = front_whole (l ?Start) o (sym is ∙ r.read.ensures.answer) in
+        let w = front_whole slots o (sym is ∙ r.read.ensures.answer) in
         r.read.ensures.table d e w.2 ∙ (λ i. splice (replicate 18 0) 1 (map size (later_of (extras i) (packet i))))
 
-    sizes : SizesOf r.read.last.1.1.1.0 later
+    sizes : SizesOf r.read.new.sizes later
     sizes = sizes_read (replicate 18 0) _ later held (omega arith)
 
-    sized : length r.read.last.1.1.1.0 ≡ 18
+    sized : length r.read.new.sizes ≡ 18
     sized =
         ap length held
-        ∙ splice_length (replicate 18 0) 1 (map size later) (omega (arith, length-map later size, datas_count (page ?Start) first o.slots o.extras ready.some, ready.datas))
+        ∙ splice_length (replicate 18 0) 1 (map size later) (omega (arith, length-map later size, datas_count ring first o.slots o.extras ready.some, ready.datas))
 
-    taken : (k : List Held) → take_front (table ?Start) (window ?Start) (q ?Start) (page ?Start) (frame ?Start) k
-        ≡ take_whole (table ?Start) (window ?Start) (q ?Start) (page ?Start) (frame ?Start) k o.extras (packet_at (page ?Start) first o)
+    taken : (k : List Held) → take_front r.args.grants.now r.args.window.now counters ring r.args.frame.now k
+        ≡ take_whole r.args.grants.now r.args.window.now counters ring r.args.frame.now k o.extras (packet_at ring first o)
     taken k =
-        let w = front_whole (l ?Start) o (sym is ∙ r.read.ensures.answer) in
-        front_packet (table ?Start) (window ?Start) (q ?Start) (page ?Start) (frame ?Start) k (l ?Start) (waits ?Start) d e w.2
-        ∙ (λ i. take_whole (table ?Start) (window ?Start) (q ?Start) (page ?Start) (frame ?Start) k (extras i) (packet i))
+        let w = front_whole slots o (sym is ∙ r.read.ensures.answer) in
+        front_packet r.args.grants.now r.args.window.now counters ring r.args.frame.now k slots (waiting_slots_lem ring first r.args.count r.requires.1) d e w.2
+        ∙ (λ i. take_whole r.args.grants.now r.args.window.now counters ring r.args.frame.now k (extras i) (packet i))
 
 pub returns-then-is_alone : goal.returns-then-is_alone
-returns-then-is_alone c k lent = let one = alone_front (page (goal.at.returns-then-is_alone c).Start) (q (goal.at.returns-then-is_alone c).Start).consumed c.args.count c.requires.2 (sym c.is_alone.ensures ∙ c.if-is_alone.true) in
-    rw (front_packet (table (goal.at.returns-then-is_alone c).Start) (window (goal.at.returns-then-is_alone c).Start) (q (goal.at.returns-then-is_alone c).Start) (page (goal.at.returns-then-is_alone c).Start) (frame (goal.at.returns-then-is_alone c).Start) k (l (goal.at.returns-then-is_alone c).Start) (waits (goal.at.returns-then-is_alone c).Start) 1 0 one.0, one.1) (c.settle_alone.ensures k lent)
+returns-then-is_alone c k lent = let s = (goal.at.returns-then-is_alone c).Start in
+    let one = alone_front (page s) (q s).consumed c.args.count c.requires.2 (sym c.is_alone.ensures ∙ c.if-is_alone.true) in
+    rw (front_packet (table s) (window s) (q s) (page s) (frame s) k (l s) (waits s) 1 0 one.0, one.1) (c.settle_alone.ensures k lent)
 
 pub settle-requires : goal.settle-requires
-settle-requires c = let o = c.o-1.given in
-    (entry c.requires.0, ready (goal.at.settle-requires c).After-read o.0.0 o.1, sizes (goal.at.settle-requires c).After-read o.0.0 o.1, sized (goal.at.settle-requires c).After-read o.0.0 o.1)
+settle-requires c = let r = (goal.at.settle-requires c).After-read in
+    (c.requires.0, ready r c.in-Whole.o c.in-Whole.is, sizes r c.in-Whole.o c.in-Whole.is, sized r c.in-Whole.o c.in-Whole.is)
 
 pub returns-in-Misshapen : goal.returns-in-Misshapen
-returns-in-Misshapen c k lent = rw (front_wrong (table (goal.at.returns-in-Misshapen c).Start) (window (goal.at.returns-in-Misshapen c).Start) (q (goal.at.returns-in-Misshapen c).Start) (page (goal.at.returns-in-Misshapen c).Start) (frame (goal.at.returns-in-Misshapen c).Start) k (l (goal.at.returns-in-Misshapen c).Start) (waits (goal.at.returns-in-Misshapen c).Start) (front_misshapen (l (goal.at.returns-in-Misshapen c).Start) (sym c.enum_told-1.given.1 ∙ c.read.ensures.answer)))
-    (gives_refusal 5 (q (goal.at.returns-in-Misshapen c).Start) (page (goal.at.returns-in-Misshapen c).Start) (frame (goal.at.returns-in-Misshapen c).Start) k Misshapen refl refl refl)
+returns-in-Misshapen c k lent = let s = (goal.at.returns-in-Misshapen c).Start in
+    rw (front_wrong (table s) (window s) (q s) (page s) (frame s) k (l s) (waits s) (front_misshapen (l s) (sym c.in-Misshapen.is ∙ c.read.ensures.answer)))
+    (gives_refusal 5 (q s) (page s) (frame s) k Misshapen refl refl refl)
 
 pub returns-in-Beginning : goal.returns-in-Beginning
-returns-in-Beginning c k lent = rw (front_stops (table (goal.at.returns-in-Beginning c).Start) (window (goal.at.returns-in-Beginning c).Start) (q (goal.at.returns-in-Beginning c).Start) (page (goal.at.returns-in-Beginning c).Start) (frame (goal.at.returns-in-Beginning c).Start) k (l (goal.at.returns-in-Beginning c).Start) (waits (goal.at.returns-in-Beginning c).Start) (front_beginning (l (goal.at.returns-in-Beginning c).Start) (sym c.enum_told-in-Beginning-1.given.1 ∙ c.read.ensures.answer)), c.ask_event.ensures)
-    (gives_refusal 6 (q (goal.at.returns-in-Beginning c).Start) (page (goal.at.returns-in-Beginning c).Start) (frame (goal.at.returns-in-Beginning c).Start) k Waiting refl refl refl)
+returns-in-Beginning c k lent = let s = (goal.at.returns-in-Beginning c).Start in
+    rw (front_stops (table s) (window s) (q s) (page s) (frame s) k (l s) (waits s) (front_beginning (l s) (sym c.in-Beginning.is ∙ c.read.ensures.answer)), c.ask_event.ensures)
+    (gives_refusal 6 (q s) (page s) (frame s) k Waiting refl refl refl)
 
 pub returns-in-Whole : goal.returns-in-Whole
-returns-in-Whole c k lent = let o = c.o-1.given in
-    rw (taken (goal.at.returns-in-Whole c).After-read o.0.0 o.1 k) (c.settle.ensures k lent)
+returns-in-Whole c k lent = let r = (goal.at.returns-in-Whole c).After-read in
+    rw (taken r c.in-Whole.o c.in-Whole.is k) (c.settle.ensures k lent)
