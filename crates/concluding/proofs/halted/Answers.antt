@@ -1,6 +1,0 @@
--- `halted` meets its contract: field by field, the definition's.
-use mathlib.Core.Path.{refl}
-use Rattle.concluding.proofs.halted.Goals as goal
-
-pub returns : goal.returns
-returns c = refl
