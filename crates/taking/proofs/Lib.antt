@@ -1,4 +1,2 @@
--- What other crates take of the functions here.
-pub mod Element
-pub mod Contracts
+-- What the take is told, and where its record goes.
 pub mod Storing
