@@ -9,32 +9,39 @@ mod stored;
 ghost use Rattle.std.specs.Prelude.{◌≤◌};
 ghost use Rattle.tally.specs.Tally.{Agreeing};
 
+use lines::input::{arg, arg_count};
+use lines::output::Output;
+use std::io;
+use std::io::Write;
+use std::rt::{Env, Files};
 use tally::Tally;
 
 // The comparison on the page that an argument names.
-fn page(i: usize) -> Tally
+fn page<R: Env + Files, W: Write>(rt: &R, out: &mut Output<W>, i: usize) -> Tally
     ensures { Agreeing result.runs result × (result.runs ≤ 1) }
 {
     let mut name = [0u8; 64];
-    let n = os::arg(i, &mut name);
-    stored::compare(&name[..n])
+    let n = arg(rt, i, &mut name);
+    stored::compare(rt, out, &name[..n])
 }
 
 // The comparison on the pages that all arguments name, of which there are so many with the program's own name.
-fn pages(count: usize) -> Tally
+fn pages<R: Env + Files, W: Write>(rt: &R, out: &mut Output<W>, count: usize) -> Tally
     ensures { Agreeing result.runs result × (result.runs ≤ count) }
 {
     let mut all = tally::none();
     let mut i: usize = 1;
     while i < count {
-        all = tally::plus(all, page(i));
+        all = tally::plus(all, page(rt, out, i));
         i += 1;
     }
     all
 }
 
-fn main() {
-    let stored = pages(os::arg_count());
-    let made = generated::all();
-    line::total(tally::plus(stored, made));
+fn main(rt: HostRuntime) -> io::Result<()> {
+    let mut out = Output::new(io::writer(&rt));
+    let stored = pages(&rt, &mut out, arg_count(&rt));
+    let made = generated::all(&mut out);
+    line::total(&mut out, tally::plus(stored, made));
+    out.finish()
 }

@@ -9,6 +9,7 @@ const PRIME: u64 = 16777619;
 const WRAP: u64 = 4294967296;
 
 // A checksum with one byte more.
+#[tactic(auto, unfolding(crate::specs::Fnv::step))]
 fn step(hash: u32, byte: u8) -> u32
     ensures { result ≡ step hash byte }
 {

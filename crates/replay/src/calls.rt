@@ -1,12 +1,14 @@
 // The calls on a ring, one after another, up to and including the first that takes nothing.
 ghost use Rattle.std.specs.Prelude.{◌≡◌, ◌+◌, ◌*◌, ◌<◌, length};
 ghost use Rattle.ring.specs.Ring.{rsp_prod};
-ghost use Rattle.io.specs.Counts.{IsPrefixLen};
+ghost use Rattle.lines.specs.Counts.{IsPrefixLen};
 ghost use Rattle.replay.specs.Pattern.{Counted};
 ghost use Rattle.replay.specs.Calls.{takes, most_calls, length_of, stored, TransmitCalled, TransmitCalls, ReceiveCalled, ReceiveCalls};
 
+use lines::output::Output;
 use lines::{checksum, line};
 use netif::DataSlot;
+use std::io::Write;
 
 // A ring holds so many slots, and each call but the last takes one or more.
 const MOST_CALLS: u32 = DataSlot::COUNT + 1;
@@ -31,7 +33,8 @@ fn took(answer: u32) -> bool
 }
 
 // A take, finished at once where it is done, and its line; whether it took something.
-fn transmit_call(
+fn transmit_call<W: Write>(
+    out: &mut Output<W>,
     name: &[u8],
     consumed: &mut u32,
     replied: &mut u32,
@@ -41,14 +44,14 @@ fn transmit_call(
     window: &[u8],
 ) -> bool
     ensures { TransmitCalled grants.now window.now
-        (record { consumed = consumed.entry.now; replied = replied.old; mark = halted.old; page = page.old })
+        (record { consumed = consumed.old; replied = replied.old; mark = halted.old; page = page.old })
         result
-        (record { consumed = consumed.exit.now; replied = replied.new; mark = halted.new; page = page.new }) }
+        (record { consumed = consumed.new; replied = replied.new; mark = halted.new; page = page.new }) }
 {
     let mut frame = [0u8; 65535];
     let mut report = [0u32; 11];
     let mut finish = [0u32; 11];
-    line::begin(name, b" tx", *consumed);
+    line::begin(out, name, b" tx", *consumed);
     let answer = at_once::take(
         consumed,
         replied,
@@ -62,12 +65,18 @@ fn transmit_call(
     );
     let frame_sum = checksum::of_first(&frame, report[5]);
     let page_sum = checksum::of(page);
-    line::end_transmit(&report, &finish, frame_sum, page_sum);
+    line::end_transmit(out, &report, &finish, frame_sum, page_sum);
     took(answer)
 }
 
 // The calls on a transmit ring.
-pub fn transmit(name: &[u8], page: &mut [u8; 4096], grants: &[u8], window: &[u8])
+pub fn transmit<W: Write>(
+    out: &mut Output<W>,
+    name: &[u8],
+    page: &mut [u8; 4096],
+    grants: &[u8],
+    window: &[u8],
+)
     ensures { TransmitCalls grants.now window.now page.new 0 (stored page.old) }
 {
     let mut consumed = counter(page);
@@ -76,6 +85,7 @@ pub fn transmit(name: &[u8], page: &mut [u8; 4096], grants: &[u8], window: &[u8]
     let mut calls: u32 = 0;
     while calls < MOST_CALLS
         && transmit_call(
+            out,
             name,
             &mut consumed,
             &mut replied,
@@ -117,7 +127,8 @@ fn frame_of(call: u32, buffer: &mut [u8; 65535]) -> usize
 }
 
 // A receive call and its line; whether it took something.
-fn receive_call(
+fn receive_call<W: Write>(
+    out: &mut Output<W>,
     name: &[u8],
     call: u32,
     consumed: &mut u32,
@@ -134,7 +145,7 @@ fn receive_call(
     let mut report = [0u32; 11];
     let n = frame_of(call, &mut buffer);
     let frame = &buffer[..n];
-    line::begin(name, b" rx", *consumed);
+    line::begin(out, name, b" rx", *consumed);
     let answer = tollmeander::tollmeander_receive_put(
         consumed,
         halted,
@@ -147,12 +158,18 @@ fn receive_call(
     let frame_sum = checksum::of_first(frame, report[5]);
     let page_sum = checksum::of(page);
     let window_sum = checksum::of(window);
-    line::end_receive(&report, frame_sum, page_sum, window_sum);
+    line::end_receive(out, &report, frame_sum, page_sum, window_sum);
     took(answer)
 }
 
 // The calls on a receive ring.
-pub fn receive(name: &[u8], page: &mut [u8; 4096], grants: &[u8], window: &mut [u8])
+pub fn receive<W: Write>(
+    out: &mut Output<W>,
+    name: &[u8],
+    page: &mut [u8; 4096],
+    grants: &[u8],
+    window: &mut [u8],
+)
     ensures { ReceiveCalls grants.now page.new window.new 0 (rsp_prod page.old) 0
         page.old window.old }
 {
@@ -161,6 +178,7 @@ pub fn receive(name: &[u8], page: &mut [u8; 4096], grants: &[u8], window: &mut [
     let mut calls: u32 = 0;
     while calls < MOST_CALLS
         && receive_call(
+            out,
             name,
             calls,
             &mut consumed,

@@ -4,7 +4,9 @@ ghost use Rattle.ring.specs.Ring.{page_size};
 ghost use Rattle.netif.specs.Slot.{slot_width, slot_count};
 
 use crate::calls;
+use lines::output::Output;
 use netif::DataSlot;
+use std::io::Write;
 
 const REQ_PROD: usize = 0;
 
@@ -103,61 +105,61 @@ fn granted_pages() -> [u8; 73728]
 }
 
 // The calls on a page.
-fn run(name: &[u8], page: &mut [u8; 4096]) {
+fn run<W: Write>(out: &mut Output<W>, name: &[u8], page: &mut [u8; 4096]) {
     let grants = grant_table();
     let window = granted_pages();
-    calls::transmit(name, page, &grants, &window);
+    calls::transmit(out, name, page, &grants, &window);
 }
 
 // 256 packets of one slot.
-fn singles(name: &[u8], posted: u32) {
+fn singles<W: Write>(out: &mut Output<W>, name: &[u8], posted: u32) {
     let first: u32 = 4294967290;
     let mut page = ring_page(first, posted);
     put_alike(&mut page, first, 0, 256, 100, 0, 60);
-    run(name, &mut page);
+    run(out, name, &mut page);
 }
 
 // Eighteen data slots, the last with these flags.
-fn eighteen(name: &[u8], flags: u16) {
+fn eighteen<W: Write>(out: &mut Output<W>, name: &[u8], flags: u16) {
     let mut page = ring_page(250, 18);
     put_data(&mut page, 250, 0, 0, 4, 1760);
     put_alike(&mut page, 250, 1, 17, 0, 4, 100);
     put_data(&mut page, 250, 17, 0, flags, 100);
-    run(name, &mut page);
+    run(out, name, &mut page);
 }
 
 // Three data slots, of 5000, 1000 and 500 bytes.
-fn three(name: &[u8]) {
+fn three<W: Write>(out: &mut Output<W>, name: &[u8]) {
     let mut page = ring_page(0, 3);
     put_data(&mut page, 0, 0, 596, 4, 5000);
     put_data(&mut page, 0, 1, 0, 4, 1000);
     put_data(&mut page, 0, 2, 0, 0, 500);
-    run(name, &mut page);
+    run(out, name, &mut page);
 }
 
 // A data slot of 14 bytes.
-fn one(name: &[u8]) {
+fn one<W: Write>(out: &mut Output<W>, name: &[u8]) {
     let mut page = ring_page(0, 1);
     put_data(&mut page, 0, 0, 0, 0, 14);
-    run(name, &mut page);
+    run(out, name, &mut page);
 }
 
 // A data slot and an extra of a type.
-fn extra(name: &[u8], kind: u8) {
+fn extra<W: Write>(out: &mut Output<W>, name: &[u8], kind: u8) {
     let mut page = ring_page(0, 2);
     put_data(&mut page, 0, 0, 0, 8, 60);
     put_extra(&mut page, kind);
-    run(name, &mut page);
+    run(out, name, &mut page);
 }
 
 // All of them, in FORMAT.md's order.
-pub fn replay() {
-    singles(b"posted-256", 256);
-    singles(b"posted-257", 257);
-    eighteen(b"eighteen-slots", 0);
-    eighteen(b"eighteen-slots-more", 4);
-    three(b"offset-596");
-    one(b"total-14");
-    extra(b"extra-type-0", 0);
-    extra(b"extra-type-2", 2);
+pub fn replay<W: Write>(out: &mut Output<W>) {
+    singles(out, b"posted-256", 256);
+    singles(out, b"posted-257", 257);
+    eighteen(out, b"eighteen-slots", 0);
+    eighteen(out, b"eighteen-slots-more", 4);
+    three(out, b"offset-596");
+    one(out, b"total-14");
+    extra(out, b"extra-type-0", 0);
+    extra(out, b"extra-type-2", 2);
 }

@@ -6,19 +6,27 @@ mod calls;
 mod examples;
 mod stored;
 
+use lines::input::{arg, arg_count};
+use lines::output::Output;
+use std::io;
+use std::io::Write;
+use std::rt::{Env, Files};
+
 // The calls on the ring in the folder that an argument names.
-fn replay(i: usize) {
+fn replay<R: Env + Files, W: Write>(rt: &R, out: &mut Output<W>, i: usize) {
     let mut name = [0u8; 64];
-    let n = os::arg(i, &mut name);
-    stored::replay(&name[..n]);
+    let n = arg(rt, i, &mut name);
+    stored::replay(rt, out, &name[..n]);
 }
 
-fn main() {
-    let count = os::arg_count();
+fn main(rt: HostRuntime) -> io::Result<()> {
+    let mut out = Output::new(io::writer(&rt));
+    let count = arg_count(&rt);
     let mut i: usize = 1;
     while i < count {
-        replay(i);
+        replay(&rt, &mut out, i);
         i += 1;
     }
-    examples::replay();
+    examples::replay(&mut out);
+    out.finish()
 }

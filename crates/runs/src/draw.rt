@@ -17,7 +17,7 @@ pub fn next(x: u32) -> u32
 pub fn first(number: u32) -> u32
     ensures { result ≡ first_of number }
 {
-    next(next(std::num::wrapping_add_u32(number, 1)))
+    next(next(number.wrapping_add(1)))
 }
 
 // A number from 0 to most that a drawn number stands for: 0, or with a chance of a little less than one half any other.

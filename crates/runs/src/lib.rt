@@ -4,11 +4,10 @@
 
 mod draw;
 
-ghost use Rattle.std.specs.Prelude.{◌≡◌, ◌+◌, ◌*◌, ◌/◌, ◌%◌, ◌<◌, ◌≤◌, length, if◌then◌else◌};
+ghost use Rattle.std.specs.Prelude.{◌≡◌, ◌+◌, ◌*◌, ◌/◌, ◌%◌, ◌<◌, ◌≤◌, length, take, if◌then◌else◌};
 ghost use Rattle.words.specs.Word.{splice};
 ghost use Rattle.ring.specs.Ring.{page_size, rsp_prod};
 ghost use Rattle.netif.specs.Slot.{slot_width, slot_count, transmit_slot};
-ghost use Rattle.io.specs.Counts.{IsPrefixLen};
 ghost use Rattle.runs.specs.Stored.{Taken};
 
 use netif::DataSlot;
@@ -209,7 +208,8 @@ fn bytes(number: u32, x: u32) -> usize
 // Lays a run at the front of a buffer; its number of bytes.
 pub fn make(number: u32, setting: Setting, run: &mut [u8]) -> usize
     requires { length run.old ≡ slot_width * (slot_count + 1) }
-    ensures { IsPrefixLen result run.new }
+    ensures within { result ≤ length run.new }
+    ensures front { result ≡ length (take result run.new) }
 {
     let x = draw::first(number);
     let n = bytes(number, x);

@@ -1,9 +1,5 @@
--- `of` meets its contract. The invariant: the steps through the bytes that are left lead from the hash to the checksum.
-use mathlib.Core.Path.{◌≡◌, ◌∙◌}
-use Prim.Native.Nat.{◌+◌, ◌-◌, ◌≤◌, ◌<◌}
-use native.Mathlib.Omega.{arith}
-use lib.ListN.{length, drop}
-use borrow.Author.Rules.{rules}
+-- The steps through the bytes that are left lead from the hash to the checksum.
+use Rattle.std.proofs.Common.{◌≡◌, length, drop, ◌-◌, ◌≤◌}
 use Rattle.lines.specs.Fnv.{steps, checksum}
 use Rattle.lines.proofs.checksum.of.Given as goal
 
