@@ -1,5 +1,5 @@
 -- `made::put_extra` is safe: the first store leaves the run's length.
-use Rattle.std.proofs.Common.{arith, length-set, rules}
+use Rattle.std.proofs.Common.{arith, length-set}
 use Rattle.runs.proofs.put_extra.Goals as goal
 
 pub bounds-run-at-3 : goal.bounds-run-at-3

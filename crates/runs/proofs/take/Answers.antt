@@ -1,5 +1,5 @@
 -- `stored::take` meets its contract. The invariant: the slots passed stand in the run, and its length stays.
-use Rattle.std.proofs.Common.{◌≡◌, ℕ, ◌+◌, ◌-◌, ◌*◌, ◌<◌, ◌≤◌, List, length, take, drop, sym, ◌∙◌, subst, arith, length-drop, length-take, get_or-drop, get_or-take, ext_get_or, rules, below_none, below_more}
+use Rattle.std.proofs.Common.{◌≡◌, ℕ, ◌+◌, ◌*◌, ◌<◌, ◌≤◌, List, length, take, drop, sym, ◌∙◌, subst, arith, length-drop, length-take, get_or-drop, get_or-take, ext_get_or, rules, below_none, below_more}
 use Rattle.words.specs.Word.{splice}
 use Rattle.words.proofs.Word.{splice_length, splice_before, splice_inside, part_same}
 use Rattle.ring.specs.Ring.{wadd}

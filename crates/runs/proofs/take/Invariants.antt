@@ -1,5 +1,5 @@
 -- `stored::take` meets its contract. The invariant: the slots passed stand in the run, and its length stays.
-use Rattle.std.proofs.Common.{◌≡◌, ◌+◌, ◌-◌, ◌*◌, ◌<◌, ◌≤◌, length, ◌∙◌, arith, rules}
+use Rattle.std.proofs.Common.{◌≡◌, ◌-◌, ◌*◌, ◌≤◌, length}
 use Rattle.netif.specs.Slot.{slot_width, slot_count}
 use Rattle.runs.specs.Stored.{Taken}
 use Rattle.runs.proofs.take.Given as goal

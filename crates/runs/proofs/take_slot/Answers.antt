@@ -1,5 +1,5 @@
 -- `stored::take_slot` meets its contract: the slot fills the part of the run that is lent, and the rest of the run stays.
-use Rattle.std.proofs.Common.{ℕ, ◌+◌, ◌-◌, ◌*◌, List, ◌++◌, length, take, drop, ap, ◌∙◌, arith, length-drop, length-take, rules}
+use Rattle.std.proofs.Common.{ℕ, ◌+◌, ◌-◌, ◌*◌, List, ◌++◌, length, take, drop, ap, ◌∙◌, arith, length-drop, length-take}
 use Rattle.words.specs.Word.{splice}
 use Rattle.words.proofs.Word.{part_written}
 use Rattle.ring.proofs.Ring.{slot_length}
