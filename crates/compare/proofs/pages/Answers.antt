@@ -1,17 +1,17 @@
 -- `pages` meets its contract. The invariant: both readers agreed on the pages passed, of which each has one run or none. The measure is the number of arguments that are left.
-use Rattle.std.proofs.Common.{◌+◌, ◌-◌, ◌≤◌, arith, rules}
+use Rattle.std.proofs.Common.{arith}
 use Rattle.tally.proofs.Agreeing.{nothing_agrees, agrees_own, together_agrees}
 use Rattle.compare.proofs.pages.Goals as goal
 
 pub loop-i-init : goal.loop-i-init
-loop-i-init c = let n = nothing_agrees c.none-all.ensures in
+loop-i-init g c = let n = nothing_agrees c.none-all.ensures in
     (agrees_own n, omega (arith, n.runs), omega arith)
 
 pub loop-i-preserved : goal.loop-i-preserved
-loop-i-preserved c = let l = c.loop-i in
+loop-i-preserved g c = let l = c.loop-i in
     let p = c.page.ensures in
     let t = together_agrees (omega arith) l.invariant.0 p.0 c.plus-all.ensures in
     (agrees_own t, omega (arith, t.runs), omega arith)
 
 pub returns : goal.returns
-returns c = (c.loop-i.invariant.0, omega arith)
+returns g c = (c.loop-i.invariant.0, omega arith)

@@ -1,5 +1,4 @@
 -- `generated::run` meets its contract: the library promises that both readers agree on every run.
-use Rattle.std.proofs.Common.{rules}
 use Rattle.tally.proofs.Agreeing.{counted_agrees}
 use Rattle.compare.proofs.generated.run.Goals as goal
 

@@ -1,5 +1,5 @@
 -- `generated::runs` meets its contract. The invariant: both readers agreed on the runs passed, which are k. The measure is the number of runs that are left.
-use Rattle.std.proofs.Common.{◌≡◌, ◌-◌, ◌≤◌, arith, rules}
+use Rattle.std.proofs.Common.{◌-◌, ◌≤◌}
 use Rattle.tally.specs.Tally.{Agreeing}
 use Rattle.compare.proofs.generated.runs.Given as goal
 

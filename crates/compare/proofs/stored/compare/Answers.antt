@@ -1,5 +1,5 @@
 -- `stored::compare` meets its contract: a page has one run or none.
-use Rattle.std.proofs.Common.{ℕ, ◌≤◌, Bool, true, false, cond, leb, List, arith, rules}
+use Rattle.std.proofs.Common.{ℕ, ◌≤◌, Bool, true, false, cond, leb, List, arith}
 use Rattle.ring.specs.Ring.{rsp_prod, posted}
 use Rattle.netif.specs.Slot.{slot_count}
 use Rattle.runs.specs.Stored.{runs_of}
@@ -14,5 +14,5 @@ one-or-none page = go (leb (posted page (rsp_prod page)) slot_count)
     go false = omega arith
 
 pub returns : goal.returns
-returns c = let a = c.compare_page.ensures in
-    (agrees_own a, omega (arith, a.runs, one-or-none c.load.new.1.0))
+returns g c = let a = c.compare_page.ensures in
+    (agrees_own a, omega (arith, a.runs, one-or-none c.load.new.page))

@@ -1,10 +1,9 @@
 -- `stored::compare_page` meets its contract: at most 256 slots are taken, so that they fit the run.
-use Rattle.std.proofs.Common.{◌≡◌, ℕ, ◌<◌, ◌≤◌, List, arith, rules, le-leb}
+use Rattle.std.proofs.Common.{◌≡◌, ℕ, ◌<◌, ◌≤◌, List, le-leb}
 use borrow.Author.Tests.{lt-leb}
 use Rattle.ring.specs.Ring.{rsp_prod, posted}
 use Rattle.netif.specs.Slot.{slot_count}
 use Rattle.runs.specs.Stored.{runs_of}
-use Rattle.io.proofs.Counting.{length-take_of_le}
 use Rattle.tally.proofs.Agreeing.{nothing_agrees}
 use Rattle.compare.proofs.stored.compare_page.Goals as goal
 
@@ -16,10 +15,7 @@ module _ (page : List ℕ) (from n : ℕ) (p : from ≡ rsp_prod page) (q : n �
   one-run h = rw (← p, ← q, le-leb n slot_count h)
 
 pub returns-then-posted-gt-COUNT : goal.returns-then-posted-gt-COUNT
-returns-then-posted-gt-COUNT c = rw (no_run c.args.page.now _ _ c.counter-from.ensures c.posted-posted.ensures c.if-posted-gt-COUNT.true) (nothing_agrees c.none.ensures)
-
-pub slice_bounds-compare_run-end : goal.slice_bounds-compare_run-end
-slice_bounds-compare_run-end c = length-take_of_le _ _ (omega arith)
+returns-then-posted-gt-COUNT g c = rw (no_run c.args.page.now _ _ c.counter-from.ensures c.posted-posted.ensures c.if-posted-gt-COUNT.true) (nothing_agrees c.none.ensures)
 
 pub returns : goal.returns
-returns c = rw (one-run c.args.page.now _ _ c.counter-from.ensures c.posted-posted.ensures c.if-posted-gt-COUNT.false) c.compare_run.ensures
+returns g c = rw (one-run c.args.page.now _ _ c.counter-from.ensures c.posted-posted.ensures c.if-posted-gt-COUNT.false) c.compare_run.ensures
