@@ -1,6 +1,5 @@
 -- `replay::main` is safe and ends. The measure is the number of arguments that are left; nothing has to hold from turn to turn.
 use Prim.Native.Nat.{◌-◌}
-use borrow.Author.Rules.{rules}
 use Rattle.replay.proofs.main.Given as goal
 
 abbrev pub invariant-loop-i : goal.invariant-loop-i

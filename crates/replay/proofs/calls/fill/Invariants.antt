@@ -1,9 +1,7 @@
 -- `replay::calls::fill` meets its contract. The invariant: the bytes passed count up, and the length stays.
-use mathlib.Core.Path.{◌≡◌, ◌∙◌}
-use Prim.Native.Nat.{◌+◌, ◌-◌, ◌%◌, ◌≤◌, ◌<◌}
-use native.Mathlib.Omega.{arith}
+use mathlib.Core.Path.{◌≡◌}
+use Prim.Native.Nat.{◌-◌, ◌≤◌}
 use lib.ListN.{length}
-use borrow.Author.Rules.{rules}
 use Rattle.replay.specs.Pattern.{Counted}
 use Rattle.replay.proofs.calls.fill.Given as goal
 

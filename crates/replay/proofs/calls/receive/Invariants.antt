@@ -2,17 +2,15 @@
 use mathlib.Core.Path.{◌≡◌}
 use mathlib.Core.List.{List}
 use Prim.Native.Nat.{ℕ, ◌-◌, ◌≤◌}
-use native.Mathlib.Omega.{arith}
 use lib.ListN.{length}
-use borrow.Author.Rules.{rules}
 use Rattle.ring.specs.Ring.{rsp_prod}
 use Rattle.replay.specs.Calls.{most_calls, ReceiveCalls}
 use Rattle.replay.proofs.calls.receive.Given as goal
 
 abbrev pub invariant-loop-calls : goal.invariant-loop-calls
-invariant-loop-calls l = (l.calls ≤ most_calls)
+invariant-loop-calls g l = (l.calls ≤ most_calls)
     × (length l.window ≡ length l.initial.window)
     × ((after windowAfter : List ℕ) → ReceiveCalls l.grants after windowAfter l.calls l.consumed l.halted l.page l.window → ReceiveCalls l.grants after windowAfter 0 (rsp_prod l.initial.page) 0 l.initial.page l.initial.window)
 
 abbrev pub decreases-loop-calls : goal.decreases-loop-calls
-decreases-loop-calls l = most_calls - l.calls
+decreases-loop-calls g l = most_calls - l.calls

@@ -1,8 +1,7 @@
 -- `replay::calls::receive_call` meets its contract: the exported call leaves what it promises for the frame, which is the front of the buffer.
-use borrow.Author.Rules.{rules}
 use Rattle.replay.proofs.Calling.{receive_called, frame_front}
 use Rattle.replay.proofs.calls.receive_call.Goals as goal
 
 pub returns : goal.returns
-returns c = let frame = frame_front c.args.call _ _ c.frame-of.ensures.1 c.frame-of.ensures.0.0 c.frame-of.ensures.2 in
-    receive_called frame c.tollmeander-receive-put.ensures c.took.ensures
+returns g c = let frame = frame_front c.args.call _ _ c.frame_of-n.ensures.1 c.frame_of-n.ensures.0.0 c.frame_of-n.ensures.2 in
+    receive_called frame c.tollmeander_receive_put-answer.ensures c.took.ensures

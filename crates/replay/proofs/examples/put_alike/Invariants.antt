@@ -1,6 +1,5 @@
 -- `replay::examples::put_alike` is safe and ends. The measure is the number of slots that are left.
 use Prim.Native.Nat.{◌-◌, ◌≤◌}
-use borrow.Author.Rules.{rules}
 use Rattle.replay.proofs.examples.put_alike.Given as goal
 
 abbrev pub invariant-loop-k : goal.invariant-loop-k

@@ -1,6 +1,5 @@
 -- `replay::examples::slot_place` meets its contract: the last of 256 slots of 12 bytes ends within the page.
 use native.Mathlib.Omega.{arith}
-use borrow.Author.Rules.{rules}
 use Rattle.ring.specs.Ring.{slot_place}
 use Rattle.replay.proofs.examples.slot_place.Goals as goal
 
