@@ -1,7 +1,7 @@
 -- What was found of the list is what the take is told, and where the take takes a packet its record goes to the first free one's place.
 use mathlib.Core.Path.{◌≡◌, sym, ap, ◌∙◌}
 use mathlib.Core.List.{List}
-use mathlib.Core.Bool.{Bool, true, false, cond}
+use mathlib.Core.Bool.{true, false}
 use Prim.Native.Nat.{ℕ, ◌<◌}
 use native.Mathlib.Omega.{arith}
 use lib.ListN.{length, set}
@@ -12,7 +12,7 @@ use Rattle.noting.specs.declared.Tally.{Tally}
 use Rattle.glancing.specs.Glance.{Glanced}
 use Rattle.transmit.specs.declared.Queue.{Queue}
 use Rattle.transmit.specs.Take.{TakeEffect}
-use Rattle.transmit.specs.Stages.{Lent, Found}
+use Rattle.transmit.specs.Stages.{Found}
 use Rattle.concluding.specs.declared.Taken.{Taken}
 use Rattle.concluding.specs.Taken.{taken_record, Concludes, TakenAs}
 

@@ -20,7 +20,7 @@ use Rattle.ring.proofs.Replied.{notify_replied}
 use Rattle.ring.proofs.Counters.{not_moved, on_counter, wadd_zero}
 use Rattle.grant.proofs.Grant.{fit_page, range_page}
 use Rattle.netif.specs.Slot.{Slot, gref, offset, size, error, transmit_slots}
-use Rattle.grammar.specs.Packet.{first_of, later_of, sizes}
+use Rattle.grammar.specs.Packet.{first_of, later_of}
 use Rattle.grammar.specs.Divide.{Cut, whole, beginning, misshapen, divide, on_cut}
 use Rattle.grammar.specs.Stages.{outline_of, front_of}
 use Rattle.grammar.specs.declared.Outline.{Outline}

@@ -4,7 +4,6 @@ use mathlib.Core.List.{List}
 use mathlib.Core.Bool.{false}
 use Prim.Native.Nat.{ℕ}
 use native.Mathlib.Omega.{arith}
-use borrow.Author.Rules.{rules}
 use Rattle.words.specs.Word.{splice}
 use Rattle.netif.specs.Decode.{data_of}
 use Rattle.netif.specs.Slot.{Slot, transmit_slot}

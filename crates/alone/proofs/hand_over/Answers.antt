@@ -5,7 +5,6 @@ use mathlib.Core.Bool.{false}
 use Prim.Native.Nat.{ℕ, ◌+◌, ◌*◌, ◌≤◌}
 use native.Mathlib.Omega.{arith}
 use lib.ListN.{length}
-use borrow.Author.Rules.{rules}
 use Rattle.words.specs.Word.{splice}
 use Rattle.words.proofs.Word.{no_confusion}
 use Rattle.netif.specs.Slot.{Slot, transmit_slot}

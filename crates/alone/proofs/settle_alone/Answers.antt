@@ -4,7 +4,6 @@ use mathlib.Core.List.{List}
 use Prim.Native.Nat.{ℕ, ◌+◌, ◌*◌}
 use native.Mathlib.Omega.{arith}
 use lib.ListN.{length}
-use borrow.Author.Rules.{rules}
 use Rattle.netif.specs.Slot.{Slot, transmit_slot}
 use Rattle.grammar.specs.declared.Outline.{Outline}
 use Rattle.answer.specs.declared.Verdict.TheVariants.{Good, Bad}

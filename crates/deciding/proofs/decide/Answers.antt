@@ -1,6 +1,5 @@
 -- `decide` meets its contract, in the order of the answers.
-use Rattle.std.proofs.Common.{◌≡◌, ℕ, true, List, length, sym, refl, ◌∙◌, arith, rules, eqb-true}
-use borrow.Author.Tests.{not-true, not-false}
+use Rattle.std.proofs.Common.{◌≡◌, ℕ, true, List, length, sym, refl, ◌∙◌, arith, eqb-true}
 use Rattle.held.specs.declared.Held.{Held}
 use Rattle.held.specs.Valid.{valid}
 use Rattle.transmit.specs.declared.Queue.{Queue}
@@ -29,20 +28,20 @@ module _ (start : Start) where
   frame = start.args.frame.now
 
 sized : (f : Else-not-is_page) → length f.args.ring.now ≡ 4096
-sized f = eqb-true _ 4096 (sym f.is_page.ensures ∙ not-false _ f.if-not-is_page.false-raw)
+sized f = eqb-true _ 4096 (sym f.is_page.ensures ∙ f.if-not-is_page.false)
 
 sound : (f : Else-not-sound) (l : List Held) → Found f.args.queue f.args.sound f.args.full l → valid f.args.queue.consumed f.args.queue.replied l ≡ true
-sound f l found = found.soundness ∙ not-false _ f.if-not-sound.false-raw
+sound f l found = found.soundness ∙ f.if-not-sound.false
 
 pub returns-then-not-is_page : goal.returns-then-not-is_page
 returns-then-not-is_page c l found = let s = (goal.at.returns-then-not-is_page c).Start in
-    rw (take_of_lem (table s) (window s) (q s) (page s) l (frame s) (stop 1) (look_bad (table s) (window s) (q s) (page s) l (sym c.is_page.ensures ∙ not-true _ c.if-not-is_page.true-raw)))
+    rw (take_of_lem (table s) (window s) (q s) (page s) l (frame s) (stop 1) (look_bad (table s) (window s) (q s) (page s) l (sym c.is_page.ensures ∙ c.if-not-is_page.true)))
     (gives_refusal 1 (q s) (page s) (frame s) l BadPage refl refl refl)
 
 pub returns-then-not-sound : goal.returns-then-not-sound
 returns-then-not-sound c l found = let s = (goal.at.returns-then-not-sound c).Start in
     let f = (goal.at.returns-then-not-sound c).Else-not-is_page in
-    rw (take_of_lem (table s) (window s) (q s) (page s) l (frame s) (stop 17) (look_unsound (table s) (window s) (q s) (page s) l (sized f) (found.soundness ∙ not-true _ c.if-not-sound.true-raw)))
+    rw (take_of_lem (table s) (window s) (q s) (page s) l (frame s) (stop 17) (look_unsound (table s) (window s) (q s) (page s) l (sized f) (found.soundness ∙ c.if-not-sound.true)))
     (gives_refusal 17 (q s) (page s) (frame s) l BadRecords refl refl refl)
 
 pub returns-then-queue : goal.returns-then-queue
@@ -82,13 +81,12 @@ returns-then-posted-eq0 c l found = let s = (goal.at.returns-then-posted-eq0 c).
 
 pub take_front-requires : goal.take_front-requires
 take_front-requires c = let f = (goal.at.take_front-requires c).Else-not-is_page in
-    let s = (goal.at.take_front-requires c).Start in
-    (
-  sized f,
-  c.posted-posted.ensures,
-  omega (arith, c.if-posted-eq0.false),
-  omega (arith, c.posted-posted.ensures, few_posted (page s) (q s).consumed (q s).replied (sym c.overflows.ensures ∙ c.if-overflows.false)),
-)
+    let s = (goal.at.take_front-requires c).Start in (
+      sized f,
+      c.posted-posted.ensures,
+      omega (arith, c.if-posted-eq0.false),
+      omega (arith, c.posted-posted.ensures, few_posted (page s) (q s).consumed (q s).replied (sym c.overflows.ensures ∙ c.if-overflows.false)),
+    )
 
 pub returns : goal.returns
 returns c l found = let g = (goal.at.returns c).Else-not-sound in
@@ -96,6 +94,6 @@ returns c l found = let g = (goal.at.returns c).Else-not-sound in
     let f = (goal.at.returns c).Else-not-is_page in
     let runs = c.if-queue.false in
     let ok = sound g l found in
-    let lent : Lent (q s).consumed (q s).replied c.args.full l = record { sound = ok; fullness = found.fullness (not-false _ c.if-not-sound.false-raw) } in
+    let lent : Lent (q s).consumed (q s).replied c.args.full l = record { sound = ok; fullness = found.fullness c.if-not-sound.false } in
     rw (take_some (table s) (window s) (q s) (page s) l (sized f) ok runs (sym c.overflows.ensures ∙ c.if-overflows.false) (frame s) (λ z. c.if-posted-eq0.false (c.posted-posted.ensures ∙ z)))
     (gives_front (table s) (window s) (q s) (page s) (frame s) l _ _ _ runs (c.take_front.ensures l lent))

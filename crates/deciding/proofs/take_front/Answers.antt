@@ -1,5 +1,5 @@
 -- `take_front` meets its contract: a slot that is a packet by itself, or what the divider read at the front of the posted slots.
-use Rattle.std.proofs.Common.{◌≡◌, ℕ, ◌+◌, List, map, length, take, replicate, sym, refl, ap, ◌∙◌, arith, rules}
+use Rattle.std.proofs.Common.{◌≡◌, ℕ, ◌+◌, List, map, length, take, replicate, sym, refl, ap, ◌∙◌, arith}
 use lib.ListN.{length-map}
 use Rattle.words.specs.Word.{splice}
 use Rattle.words.proofs.Word.{splice_length}

@@ -1,5 +1,4 @@
 -- `replying::reply_data` meets its contract: the slot's own id and the status, stored over its first bytes.
-use borrow.Author.Rules.{rules}
 use mathlib.Core.Path.{ap, ◌∙◌}
 use mathlib.Core.List.{◌++◌}
 use Rattle.words.specs.Word.{splice, u16_bytes}

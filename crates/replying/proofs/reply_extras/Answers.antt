@@ -1,6 +1,6 @@
 -- `replying::reply_extras` meets its contract: after i turns the first i slots of the run are replied to, and the others stand as they stood.
 use mathlib.Core.Path.{◌≡◌, ap, ◌∙◌}
-use Prim.Native.Nat.{◌+◌, ◌-◌, ◌≤◌}
+use Prim.Native.Nat.{◌+◌}
 use native.Mathlib.Omega.{arith}
 use lib.ListN.{length}
 use borrow.Author.Rules.{rules}

@@ -1,9 +1,7 @@
 -- `replying::reply_later` meets its contract: after i turns the first i slots of the run are replied to, and the others stand as they stood.
-use mathlib.Core.Path.{◌≡◌, ◌∙◌}
+use mathlib.Core.Path.{◌≡◌}
 use Prim.Native.Nat.{◌+◌, ◌-◌, ◌≤◌}
-use native.Mathlib.Omega.{arith}
 use lib.ListN.{length}
-use borrow.Author.Rules.{rules}
 use Rattle.packet.specs.Judge.{data_reply}
 use Rattle.transmit.specs.Stages.{replied_by}
 use Rattle.replying.proofs.reply_later.Given as goal

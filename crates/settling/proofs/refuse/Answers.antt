@@ -2,7 +2,6 @@
 use mathlib.Core.Path.{refl, sym, ◌∙◌}
 use mathlib.Core.Bool.{false}
 use native.Mathlib.Omega.{arith}
-use borrow.Author.Rules.{rules}
 use Rattle.ring.proofs.Ring.{slots_length}
 use Rattle.packet.specs.Stages.{packet_at}
 use Rattle.transmit.specs.declared.Answer.TheVariants.{NoRecord}

@@ -1,5 +1,4 @@
 -- `reply_now` meets its contract: the replies, then rsp_prod behind them, where no packet is held; else nothing.
-use borrow.Author.Rules.{rules}
 use Rattle.transmit.proofs.Settling.{replied_now, replied_later}
 use Rattle.settling.proofs.reply_now.Goals as goal
 

@@ -1,5 +1,4 @@
 -- `summary_of` meets its contract: field by field (`summary_is`).
-use borrow.Author.Rules.{rules}
 use Rattle.transmit.proofs.Settling.{summary_is}
 use Rattle.settling.proofs.summary_of.Goals as goal
 
