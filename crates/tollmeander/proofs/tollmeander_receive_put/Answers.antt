@@ -1,6 +1,5 @@
 -- The export meets its contract: the call's own promise, and its answer and queue as words.
 use mathlib.Core.Path.{refl}
-use borrow.Author.Rules.{rules}
 use Rattle.answer.proofs.Ends.{leaves_words}
 use Rattle.tollmeander.proofs.tollmeander_receive_put.Goals as goal
 

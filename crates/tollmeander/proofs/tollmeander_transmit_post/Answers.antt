@@ -1,5 +1,4 @@
 -- The export meets its contract: the call's own promise, and its answer as words.
-use borrow.Author.Rules.{rules}
 use mathlib.Core.Path.{ap, ◌∙◌}
 use Rattle.answer.specs.Report.{Report}
 use Rattle.answer.specs.Words.{report_words}
