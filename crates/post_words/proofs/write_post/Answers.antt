@@ -1,5 +1,4 @@
 -- `write_post` meets its contract: each answer has its own report.
-use borrow.Author.Rules.{rules}
 use Rattle.post_words.proofs.write_post.Goals as goal
 
 pub returns-in-Posted : goal.returns-in-Posted

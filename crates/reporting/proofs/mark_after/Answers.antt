@@ -4,7 +4,6 @@ use mathlib.Core.Bool.{Bool, cond}
 use borrow.Author.Tests.{eq-eqb, ne_eqb}
 use Rattle.answer.specs.Report.{flag}
 use Rattle.answer.specs.Words.{mark_after}
-use borrow.Author.Rules.{rules}
 use Rattle.reporting.proofs.mark_after.Goals as goal
 
 pub returns-then-mark-eq0 : goal.returns-then-mark-eq0

@@ -1,5 +1,4 @@
 -- `write_put` meets its contract: each answer has its own report.
-use borrow.Author.Rules.{rules}
 use Rattle.reporting.proofs.write_put.Goals as goal
 
 pub returns-in-Done : goal.returns-in-Done
