@@ -20,7 +20,7 @@ use Rattle.held.specs.declared.Held.{Held}
 use Rattle.held.specs.Records.{full}
 use Rattle.held.specs.Valid.{valid}
 use Rattle.transmit.specs.Take.{TakeEffect, refusal, overflow, waiting_slots, summary_of, spoiled, handed_over, take_packet, Look, stop, ready, look_front, look, take_of, transmit_take}
-use Rattle.answer.specs.Verdict.{◌or_else◌, test}
+use Rattle.answer.specs.Verdict.{test}
 use Rattle.packet.specs.Judge.{total_of, own_part, judge_slot, judge_later, judge}
 use Rattle.packet.proofs.Judge.{or_else_good, test_good, good_parts, good_sizes}
 use Rattle.receive.specs.Put.{needed}

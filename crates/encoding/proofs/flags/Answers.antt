@@ -1,7 +1,6 @@
 -- `flags` meets its contract: the four cases.
 use mathlib.Core.Path.{◌≡◌}
 use mathlib.Core.Bool.{Bool}
-use borrow.Author.Rules.{rules}
 use Rattle.frontend.specs.Post.{flags_for}
 use Rattle.encoding.proofs.flags.Goals as goal
 

@@ -1,5 +1,4 @@
 -- `put_data` meets its contract: three stores, one behind the other (`data_stored`).
-use borrow.Author.Rules.{rules}
 use Prim.Native.Nat.{◌+◌, ◌≤◌}
 use native.Mathlib.Omega.{arith}
 use Rattle.ring.proofs.Ring.{place_fits}

@@ -1,8 +1,7 @@
 -- `fast_reader::cut` meets its contract. The invariant: the packets cut off so far and the slots that are left are the run, as the laws of
 -- `Cutting` have it. The measure is the number of slots left, which each packet lessens.
-use borrow.Author.Rules.{rules}
 use mathlib.Core.Path.{◌≡◌, ap, subst}
-use Prim.Native.Nat.{◌-◌, ◌≤◌}
+use Prim.Native.Nat.{◌-◌}
 use native.Mathlib.Omega.{arith}
 use lib.ListN.{length-set}
 use Rattle.ring.proofs.Ring.{slots_length}

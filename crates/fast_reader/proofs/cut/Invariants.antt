@@ -1,12 +1,9 @@
 -- `fast_reader::cut` meets its contract. The invariant: the packets cut off so far and the slots that are left are the run, as the laws of
 -- `Cutting` have it. The measure is the number of slots left, which each packet lessens.
-use borrow.Author.Rules.{rules}
 use mathlib.Core.Path.{◌≡◌}
 use Prim.Native.Nat.{◌-◌, ◌≤◌}
-use native.Mathlib.Omega.{arith}
 use lib.ListN.{length}
 use Rattle.netif.specs.Slot.{slot_count, transmit_slots}
-use Rattle.division.specs.declared.Ending.TheVariants as ending
 use Rattle.division.proofs.Cutting.{Cutting}
 use Rattle.fast_reader.proofs.cut.Given as goal
 

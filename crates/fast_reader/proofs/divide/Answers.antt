@@ -1,6 +1,5 @@
 -- `fast_reader::divide` meets its contract: the slots of the page are the run's, so what was cut off them is a division of the run, and by the
 -- agreement there is one answer for that.
-use borrow.Author.Rules.{rules}
 use mathlib.Core.Path.{refl, ap, ◌∙◌}
 use Prim.Native.Nat.{◌/◌}
 use native.Mathlib.Omega.{arith}

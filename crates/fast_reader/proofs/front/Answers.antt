@@ -1,6 +1,5 @@
 -- `fast_reader::front` meets its contract: what the divider answers is, by the grammar's laws, what stands at the front, and a packet that
 -- it reports is as many slots long as its outline says.
-use borrow.Author.Rules.{rules}
 use mathlib.Core.Path.{◌≡◌, refl, sym, ap, ◌∙◌, subst}
 use mathlib.Core.Logic.{◌≢◌}
 use mathlib.Core.List.{List, []}

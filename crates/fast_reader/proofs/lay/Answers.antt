@@ -1,5 +1,4 @@
 -- `fast_reader::lay` meets its contract: the copy into the page's part, and the page put together again around it.
-use borrow.Author.Rules.{rules}
 use mathlib.Core.Path.{ap, ◌∙◌}
 use mathlib.Core.List.{◌++◌}
 use Prim.Native.Nat.{◌+◌, ◌-◌}

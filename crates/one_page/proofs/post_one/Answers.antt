@@ -1,14 +1,9 @@
 -- `post_one` meets its contract: the one page, or that there is none, is what is found of the list; each way out is then one law of `Calls`.
-use borrow.Author.Rules.{rules}
 use native.Mathlib.Omega.{arith}
-use mathlib.Core.Path.{◌≡◌, refl, sym, ◌∙◌}
-use mathlib.Core.Bool.{false}
-use mathlib.Core.List.{List, [], ◌∷◌}
-use Prim.Native.Nat.{ℕ, ◌≤◌}
-use lib.ListN.{length, get_or}
-use Rattle.grant.specs.Lookup.{write_page}
-use Rattle.grant.specs.declared.Page.TheVariants as found
-use Rattle.frontend.specs.Stages.{PagesTested}
+use mathlib.Core.Path.{refl, sym, ◌∙◌}
+use mathlib.Core.List.{[]}
+use Prim.Native.Nat.{◌≤◌}
+use lib.ListN.{length}
 use Rattle.receive.proofs.Calls.{one_piece}
 use Rattle.frontend.proofs.Shape.{few_extras}
 use Rattle.frontend.proofs.Naming.{sorted_short, one_unfit, one_fit, one_page}

@@ -1,5 +1,4 @@
 -- `bad_gso` meets its contract: by cases, and then by the verdict of cause 6.
-use borrow.Author.Rules.{rules}
 use mathlib.Core.Path.{refl, sym, ap, ◌∙◌}
 use Rattle.frontend.specs.Post.{is_bad, bad_gso}
 use Rattle.post.proofs.bad_gso.Goals as goal

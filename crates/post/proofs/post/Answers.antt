@@ -1,5 +1,4 @@
 -- `post` meets its contract: each way out is one law of `Calls`.
-use borrow.Author.Rules.{rules}
 use borrow.Author.Tests.{not-true, not-false, eqb-true}
 use mathlib.Core.Bool.{false}
 use mathlib.Core.Path.{◌≡◌, sym, ◌∙◌}

@@ -1,13 +1,9 @@
 -- `post_pages` meets its contract: each way out is one law of `Calls`.
-use borrow.Author.Rules.{rules}
 use native.Mathlib.Omega.{arith}
-use mathlib.Core.Path.{◌≡◌, refl}
-use mathlib.Core.Bool.{false}
-use mathlib.Core.List.{List}
-use Prim.Native.Nat.{ℕ}
+use mathlib.Core.Path.{refl}
 use lib.ListN.{length}
 use Rattle.frontend.proofs.Shape.{few_extras}
-use Rattle.frontend.proofs.Calls.{Counts, frame_counts, sorted_facts, posts_bad_pages, posts_no_slots, posts_posted}
+use Rattle.frontend.proofs.Calls.{frame_counts, sorted_facts, posts_bad_pages, posts_no_slots, posts_posted}
 use Rattle.post.proofs.post_pages.Goals as goal
 
 pub bad_pages-requires : goal.bad_pages-requires

@@ -1,6 +1,5 @@
 -- `extras_of` meets its contract, by cases.
 use mathlib.Core.Path.{sym, ap}
-use borrow.Author.Rules.{rules}
 use Rattle.frontend.specs.Post.{gso_extras}
 use Rattle.posting.proofs.extras_of.Goals as goal
 

@@ -1,5 +1,4 @@
 -- `free` meets its contract: the difference past 256 leaves none.
-use borrow.Author.Rules.{rules}
 use native.Mathlib.Omega.{arith}
 use Rattle.ring.specs.Ring.{posted}
 use Rattle.frontend.specs.Post.{free_slots}

@@ -1,5 +1,4 @@
 -- `put_extras` meets its contract, by cases.
-use borrow.Author.Rules.{rules}
 use Rattle.posting.proofs.put_extras.Goals as goal
 
 pub returns-in-Absent : goal.returns-in-Absent

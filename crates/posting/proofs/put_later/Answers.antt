@@ -1,8 +1,7 @@
 -- `put_later` meets its contract: what is left of the loop is what is left of the slots (`later_next`).
 use borrow.Author.Rules.{rules}
 use native.Mathlib.Omega.{arith}
-use mathlib.Core.Path.{◌≡◌, sym, ◌∙◌}
-use Prim.Native.Nat.{◌+◌, ◌-◌, ◌*◌, ◌≤◌}
+use mathlib.Core.Path.{sym, ◌∙◌}
 use Rattle.frontend.proofs.Stored.{later_first, later_next, later_last}
 use Rattle.posting.proofs.put_later.Goals as goal
 

@@ -1,5 +1,4 @@
 -- `put_packet` meets its contract: the slots one after the other (`packet_written`).
-use borrow.Author.Rules.{rules}
 use Prim.Native.Nat.{◌≤◌}
 use native.Mathlib.Omega.{arith}
 use lib.ListN.{drop, take, get_or}

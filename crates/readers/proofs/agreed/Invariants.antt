@@ -1,9 +1,6 @@
 -- `agreed` meets its contract. The invariant: so many of the places passed are the same. The measure is what is left of n.
-use borrow.Author.Rules.{rules}
-use mathlib.Core.Path.{◌≡◌, ◌∙◌}
-use mathlib.Core.Logic.{⊎_elim}
-use Prim.Native.Nat.{◌+◌, ◌-◌, ◌≤◌}
-use native.Mathlib.Omega.{arith}
+use mathlib.Core.Path.{◌≡◌}
+use Prim.Native.Nat.{◌-◌, ◌≤◌}
 use Rattle.readers.specs.Compare.{agreeing}
 use Rattle.readers.proofs.agreed.Given as goal
 

@@ -1,7 +1,6 @@
 -- `compare` meets its contract: by the agreement both readers answer the same and leave the same table.
 use mathlib.Core.Path.{ap, ◌∙◌}
 use native.Mathlib.Omega.{arith}
-use borrow.Author.Rules.{rules}
 use Rattle.readers.specs.Compare.{count_of, compared_of}
 use Rattle.division.proofs.Agreement.{readers_agree}
 use Rattle.readers.proofs.Counting.{count_few, agreeing_all}

@@ -1,5 +1,4 @@
 -- `bad_pages` meets its contract: each way out is one law of `Naming`.
-use borrow.Author.Rules.{rules}
 use mathlib.Core.Path.{ap}
 use native.Mathlib.Omega.{arith}
 use Rattle.frontend.specs.Search.{ended}

@@ -1,9 +1,7 @@
 -- `search_pages` meets its contract: the loops go on with what is left of the search, the table holds the pages seen, and the label is left
 -- where a pair is found.
-use borrow.Author.Rules.{rules}
 use mathlib.Core.Path.{◌≡◌, refl, sym, ◌∙◌}
-use mathlib.Core.List.{[]}
-use Prim.Native.Nat.{◌-◌, ◌≤◌, ◌<◌}
+use Prim.Native.Nat.{◌≤◌, ◌<◌}
 use native.Mathlib.Omega.{arith}
 use lib.ListN.{length, length-set}
 use Rattle.frontend.proofs.Searching.{not_apart, search_unfit, search_enters, table_next, search_hits, search_misses, search_leaves, search_ends}

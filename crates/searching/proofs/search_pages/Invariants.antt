@@ -1,10 +1,8 @@
 -- `search_pages` meets its contract: the loops go on with what is left of the search, the table holds the pages seen, and the label is left
 -- where a pair is found.
-use borrow.Author.Rules.{rules}
-use mathlib.Core.Path.{◌≡◌, ◌∙◌}
+use mathlib.Core.Path.{◌≡◌}
 use mathlib.Core.List.{[]}
-use Prim.Native.Nat.{◌-◌, ◌≤◌, ◌<◌}
-use native.Mathlib.Omega.{arith}
+use Prim.Native.Nat.{◌-◌, ◌≤◌}
 use lib.ListN.{length, take}
 use Rattle.frontend.specs.Pages.{pages_of}
 use Rattle.frontend.specs.Search.{search_from}

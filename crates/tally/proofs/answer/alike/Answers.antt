@@ -1,5 +1,5 @@
 -- `answer::alike` meets its contract: a division's rest is what is asked of the other answer.
-use Rattle.std.proofs.Common.{◌≡◌, ℕ, rules}
+use Rattle.std.proofs.Common.{◌≡◌, ℕ}
 use Rattle.division.specs.declared.Cuts.{Cuts}
 use Rattle.division.specs.declared.Divided.{Divided}
 use Rattle.division.specs.declared.Divided.TheVariants as divided

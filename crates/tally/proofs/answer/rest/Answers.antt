@@ -1,5 +1,5 @@
 -- `answer::rest` meets its contract: where the answer is a division, both numbers are those of the two rests.
-use Rattle.std.proofs.Common.{◌≡◌, ℕ, rules}
+use Rattle.std.proofs.Common.{◌≡◌, ℕ}
 use Rattle.division.specs.Answer.{number_of}
 use Rattle.division.specs.declared.Ending.{Ending}
 use Rattle.division.specs.declared.Cuts.{Cuts}
