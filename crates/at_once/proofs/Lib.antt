@@ -1,3 +1,2 @@
--- The contract as the walk takes it, and the laws.
-pub mod Contracts
+-- The laws.
 pub mod Lent

@@ -46,9 +46,9 @@ pub fn take(
     finish: &mut [u32; 11],
 ) -> u32
     ensures { Called grants.now window.now frame.old finish.old
-        (record { consumed = consumed.entry.now; replied = replied.old; mark = halted.old; page = ring.old })
+        (record { consumed = consumed.old; replied = replied.old; mark = halted.old; page = ring.old })
         result
-        (record { consumed = consumed.exit.now; replied = replied.new; mark = halted.new; page = ring.new })
+        (record { consumed = consumed.new; replied = replied.new; mark = halted.new; page = ring.new })
         frame.new report.new finish.new }
 {
     let mut held = free_records();
