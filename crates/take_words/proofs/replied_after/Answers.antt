@@ -1,6 +1,5 @@
 -- `replied_after` meets its contract, by the cases of the answer.
 use mathlib.Core.Path.{refl}
-use borrow.Author.Rules.{rules}
 use Rattle.take_words.proofs.replied_after.Goals as goal
 
 pub returns-in-Done : goal.returns-in-Done

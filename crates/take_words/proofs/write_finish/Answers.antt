@@ -1,5 +1,4 @@
 -- `write_finish` meets its contract: each answer has its own report.
-use borrow.Author.Rules.{rules}
 use Rattle.take_words.proofs.write_finish.Goals as goal
 
 pub returns-in-Done : goal.returns-in-Done

@@ -1,5 +1,4 @@
 -- `write_finished` meets its contract: the eleven words in their order, the flag as its word.
-use borrow.Author.Rules.{rules}
 use mathlib.Core.Path.{refl}
 use mathlib.Core.List.{[], ◌∷◌}
 use Rattle.answer.specs.Words.{report_words}

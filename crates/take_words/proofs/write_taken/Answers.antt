@@ -2,7 +2,6 @@
 use mathlib.Core.Path.{refl}
 use mathlib.Core.List.{[], ◌∷◌}
 use Rattle.answer.specs.Words.{report_words}
-use borrow.Author.Rules.{rules}
 use Rattle.take_words.proofs.write_taken.Goals as goal
 
 pub returns : goal.returns
