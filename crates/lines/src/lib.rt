@@ -5,3 +5,5 @@ pub mod checksum;
 pub mod input;
 pub mod line;
 pub mod output;
+#[cfg(test)]
+mod tests;
