@@ -4,11 +4,11 @@ use mathlib.Core.Path.{◌≡◌, refl, sym, ap, ◌∙◌}
 use mathlib.Core.Logic.{◌≢◌}
 use mathlib.Core.List.{List, [], ◌∷◌, ◌++◌, map}
 use mathlib.Core.Bool.{Bool, true, false, not, cond}
-use Prim.Native.Nat.{ℕ, zero, suc, ◌+◌, ◌-◌, ◌*◌, ◌≤◌, ◌<◌}
+use Prim.Native.Nat.{ℕ, suc, ◌+◌, ◌-◌, ◌*◌, ◌≤◌, ◌<◌}
 use native.Mathlib.Omega.{arith}
 use lib.ListN.{length, take, drop, get_or, set, length-set, length-append, length-drop}
 use lib.Seq.{get_or-set_same, set_at, drop-cons, append_snoc, length-take-le}
-use lib.Dec.{eqb, leb}
+use lib.Dec.{leb}
 use borrow.Author.Tests.{leb-true}
 use Rattle.words.proofs.Lists.{place_fits}
 use Rattle.grammar.specs.Service.{◌▹◌}
@@ -23,13 +23,13 @@ use Rattle.glancing.specs.Glance.{Glanced}
 use Rattle.transmit.specs.declared.Queue.{Queue}
 use Rattle.transmit.specs.declared.Answer.{Answer}
 use Rattle.transmit.specs.declared.Answer.TheVariants.{Done, BadPage, HaltedAlready, Overflow, Empty, Misshapen, Waiting, Spoiled, NoRoom, NoRecord, BadRecords}
-use Rattle.transmit.specs.Take.{TakeEffect, transmit_take}
+use Rattle.transmit.specs.Take.{TakeEffect}
 use Rattle.transmit.specs.Stages.{report_of, takes, Found}
 use Rattle.transmit.proofs.Keeps.{stays_valid}
-use Rattle.transmit.proofs.Frame.{FrameFits, take_fits}
+use Rattle.transmit.proofs.Frame.{take_fits}
 use Rattle.concluding.specs.declared.Taken.{Taken}
-use Rattle.concluding.specs.Taken.{taken_record, Concludes}
-use Rattle.batch.specs.Batch.{Progress, begun, listed, goes_on, next_take, batch, stored}
+use Rattle.concluding.specs.Taken.{taken_record, Concludes, ConcludesAs}
+use Rattle.batch.specs.Batch.{Progress, begun, goes_on, next_take, batch, stored}
 use Rattle.batch.proofs.Batch.{batch_step}
 use Rattle.listing.specs.declared.Batch.{Batch}
 use Rattle.listing.specs.Listing.{place_found, started, behind, listed_in, total_of, advanced}
@@ -120,7 +120,10 @@ module _ (table window : List ℕ) (b : Batch) (page : List ℕ) (l : List Held)
   pub take_told : Found b.queue b.good (leb (length l) b.free) l
   take_told = (fits.known more).found
 
-  module _ (t : Taken) (page' frame' : List ℕ) (c : Concludes (behind b.filled frame e) b.queue l t page' frame') where
+  module _ (t : Taken) (page' frame' : List ℕ) (whole : ConcludesAs (behind b.filled frame e) b.queue l t page' frame') where
+    c : Concludes (behind b.filled frame e) b.queue l t page' frame'
+    c = whole.concludes
+
     -- where a packet is taken, the list is valid and the place is the first free record's
     good : t.takes ≡ true → b.good ≡ true
     good h = sym take_told.soundness ∙ (c.room h).sound
@@ -132,7 +135,7 @@ module _ (table window : List ℕ) (b : Batch) (page : List ℕ) (l : List Held)
     keep_fits h = omega (arith, place h, (free_place l (c.room h).fullness).0)
 
     going : goes_on e.report.answer ≡ t.takes
-    going = ap (λ (r : Report). goes_on r.answer) (sym c.report) ∙ goes_on_lem t.ticket t.answer ∙ sym c.takings
+    going = ap (λ (r : Report). goes_on r.answer) (sym c.report) ∙ goes_on_lem t.ticket t.answer ∙ sym whole.takings
 
     total : total_of t.answer ≡ e.report.total
     total = sym (total_told t.ticket t.answer) ∙ ap (λ (r : Report). r.total) c.report
@@ -234,19 +237,16 @@ stored_length : (lent : List (List ℕ)) (rs : List Report) → length (stored l
 unfolding stored
 stored_length lent rs = omega (arith, length-append (map report_words rs) (drop (length rs) lent), length_words rs, length-drop (length rs) lent)
 
--- where a batch with these numbers starts
-abbrev pub starting : (page : List ℕ) → List Held → (frame : List ℕ) → Batch → Progress
-starting page l frame b = record { queue = b.queue; page = page; list = l; frame = frame; filled = b.filled; reports = [] }
-
 module _ (table window : List ℕ) (most : ℕ) where
   pub to_do_start : (q : Queue) (page : List ℕ) (l : List Held) (frame : List ℕ) (lent : List (List ℕ)) (b : Batch) → Begins q most l b
-      → ToDo table window b.left (starting page l frame b) lent b page l frame lent
+      → ToDo table window most (begun q page frame l) lent b page l frame lent
   unfolding stored
-  to_do_start q page l frame lent b s = record { reports = []; counted = sym s.count; entries = refl; same = refl }
-
-  pub as_begun : (q : Queue) (page : List ℕ) (l : List Held) (frame : List ℕ) (b : Batch) → Begins q most l b
-      → batch table window b.left (starting page l frame b) ≡ batch table window most (begun q page frame l)
-  as_begun q page l frame b s = λ i. batch table window (s.left i) (record { queue = s.queue i; page = page; list = l; frame = frame; filled = s.filled i; reports = [] })
+  to_do_start q page l frame lent b s = record {
+    reports = [];
+    counted = sym s.count;
+    entries = refl;
+    same = sym (λ i. batch table window (s.left i) (record { queue = s.queue i; page = page; list = l; frame = frame; filled = s.filled i; reports = [] }));
+  }
 
   pub begins_fits : (q : Queue) (l : List Held) (frame : List ℕ) (lent : List (List ℕ)) (b : Batch) → most ≤ length lent → most ≤ 256 → Begins q most l b → InCourse b l frame lent
   begins_fits q l frame lent b long few s = record {

@@ -9,8 +9,7 @@ use lib.Dec.{eqb}
 use lib.Seq.{drop-cons}
 use borrow.Author.Tests.{ne_eqb}
 use Rattle.held.specs.declared.Held.{Held}
-use Rattle.held.specs.Records.{free, in_use, first_free, added}
-use Rattle.words.specs.Lists.{place_of}
+use Rattle.held.specs.Records.{free, in_use, first_free}
 
 -- the place from i on is the place from the first one on
 abbrev pub FreeFrom : List Held → (from i : ℕ) → Type 0

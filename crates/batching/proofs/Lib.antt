@@ -1,5 +1,3 @@
 -- What other crates take of the functions here.
 pub mod Free
 pub mod Course
-pub mod Element
-pub mod Contracts

@@ -1,0 +1,23 @@
+-- `take_next` meets its contract: what a take leaves is the take that the definition makes next, and the numbers fit again (`step_taken`,
+-- `step_fits`).
+use Rattle.batching.proofs.Course.{take_told, keep_fits, step_taken, step_fits}
+use Rattle.batching.proofs.take_next.Goals as goal
+
+pub keep-free-requires : goal.keep-free-requires
+keep-free-requires c = let b = c.args.batch in
+    let l = c.args.list.now in
+    let frame = c.args.frame.now in
+    let results = c.args.results.now in
+    let told = take_told c.args.grants.now c.args.window.now b c.args.ring.now l frame results c.requires.0 c.requires.1 in
+    keep_fits c.args.grants.now c.args.window.now b c.args.ring.now l frame results c.requires.0 c.requires.1 _ _ _ (c.take_listed-taken.ensures.1 l told)
+
+pub returns : goal.returns
+returns c = let b = c.args.batch in
+    let l = c.args.list.now in
+    let frame = c.args.frame.now in
+    let results = c.args.results.now in
+    let told = take_told c.args.grants.now c.args.window.now b c.args.ring.now l frame results c.requires.0 c.requires.1 in
+    let whole = c.take_listed-taken.ensures.1 l told in (
+      step_fits c.args.grants.now c.args.window.now b c.args.ring.now l frame results c.requires.0 c.requires.1 _ _ _ whole _ _ c.keep-free.ensures _ c.advance.ensures.0 _ c.take_listed-taken.ensures.0 c.advance.ensures.1,
+      step_taken c.args.grants.now c.args.window.now b c.args.ring.now l frame results c.requires.0 c.requires.1 _ _ _ whole _ _ c.keep-free.ensures _ c.advance.ensures.0 _ c.take_listed-taken.ensures.0,
+    )
