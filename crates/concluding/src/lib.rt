@@ -145,23 +145,6 @@ fn record_of(queue: Queue, answer: Answer) -> Held
     }
 }
 
-// What a take with this answer comes to.
-pub fn taken_of(queue: Queue, answer: Answer) -> Taken
-    ensures { TakenFor queue answer result }
-{
-    let record = record_of(queue, answer);
-    Taken {
-        answer,
-        queue: queue_after(queue, answer),
-        takes: takes(answer),
-        ticket: record.ticket,
-        slots: record.slots,
-        extras: record.extras,
-        status: record.status,
-        finished: record.finished,
-    }
-}
-
 // Takes the packet at the counter, if a whole one stands there, by what was found of the list; its record is not stored yet.
 pub fn conclude(
     queue: Queue,
@@ -176,5 +159,32 @@ pub fn conclude(
         queue l result ring.new frame.new }
 {
     let answer = deciding::decide(queue, found.good, found.full, grants, window, ring, frame);
-    taken_of(queue, answer)
+    let record = record_of(queue, answer);
+    Taken {
+        answer,
+        queue: queue_after(queue, answer),
+        takes: takes(answer),
+        ticket: record.ticket,
+        slots: record.slots,
+        extras: record.extras,
+        status: record.status,
+        finished: record.finished,
+    }
+}
+
+// What a take with this answer comes to.
+pub fn taken_of(queue: Queue, answer: Answer) -> Taken
+    ensures { TakenFor queue answer result }
+{
+    let kept = record_of(queue, answer);
+    Taken {
+        answer,
+        queue: queue_after(queue, answer),
+        takes: takes(answer),
+        ticket: kept.ticket,
+        slots: kept.slots,
+        extras: kept.extras,
+        status: kept.status,
+        finished: kept.finished,
+    }
 }
