@@ -7,74 +7,57 @@ ghost use Rattle.netif.specs.Slot.{transmit_slot, transmit_slots};
 ghost use Rattle.grammar.specs.Divide.{alone};
 ghost use Rattle.grammar.specs.Stages.{FrontRead, AfterExtras};
 
-use grammar::{Extras, Front, Outline, Shape};
+use grammar::{Extras, Outline, Unfinished};
 use netif::DataSlot;
 
 // Whether the first slot is a packet by itself: it announces neither an extra nor more data.
-pub fn is_alone(page: &[u8], first: u32) -> bool
-    requires { length page.now ≡ page_size }
+pub fn is_alone(page: &[u8; 4096], first: u32) -> bool
     ensures { result ≡ alone (transmit_slot page.now first) }
 {
     let slot = DataSlot::at(page, first);
-    let more = slot.more_data();
-    let extra = slot.extra_follows();
-    if more {
-        return false;
-    }
-    !extra
+    !slot.more_data() && !slot.extra_follows()
 }
 
 // The packet whose extras were read. The first slot's fields are read when all slots are there: a waiting packet needs its flags only.
 fn read_rest(
-    page: &[u8],
+    page: &[u8; 4096],
     first: u32,
     posted: u32,
     extras: Extras,
     more: bool,
     sizes: &mut [u16; 18],
-) -> Front
-    requires { (length page.now ≡ page_size)
-        × (posted ≤ 256)
-        × (length sizes.old ≡ 18)
-        × AfterExtras page.now first posted more extras }
-    ensures { FrontRead (transmit_slots page.now first posted) sizes.old
-        sizes.new result }
+) -> Result<Outline, Unfinished>
+    requires { (posted ≤ 256) × AfterExtras page.now first posted more extras }
+    ensures { FrontRead (transmit_slots page.now first posted) sizes.old sizes.new result }
 {
-    let later = scanning::read_later(page, first, posted, extras.count, more, sizes);
-    let shape = later.shape;
-    match shape {
-        Shape::Misshapen => Front::Misshapen,
-        Shape::Beginning => Front::Beginning,
-        Shape::Whole => Front::Whole(Outline {
-            head: DataSlot::at(page, first),
-            slots: later.count + 1 + extras.count,
-            extras: extras.count,
-            later_bytes: later.sum,
-            gso_size: extras.gso_size,
-            gso_type: extras.gso_type,
-        }),
-    }
+    let later = scanning::read_later(page, first, posted, extras.count, more, sizes)?;
+    Ok(Outline {
+        head: DataSlot::at(page, first),
+        slots: later.count + 1 + extras.count,
+        extras: extras.count,
+        later_bytes: later.sum,
+        gso_size: extras.gso_size,
+        gso_type: extras.gso_type,
+    })
 }
 
 // What stands at the front of the slots posted from counter first on. Of a whole packet the table gets the later data slots'
 // sizes, from the place 1 on. Where no extra is announced the rest is read by a call of its own, with zeros that the compiler knows.
-pub fn read(page: &[u8], first: u32, posted: u32, sizes: &mut [u16; 18]) -> Front
-    requires { (length page.now ≡ page_size) × (1 ≤ posted) × (posted ≤ 256) × (length sizes.old ≡ 18) }
-    ensures { FrontRead (transmit_slots page.now first posted) sizes.old
-        sizes.new result }
+pub fn read(
+    page: &[u8; 4096],
+    first: u32,
+    posted: u32,
+    sizes: &mut [u16; 18],
+) -> Result<Outline, Unfinished>
+    requires { (1 ≤ posted) × (posted ≤ 256) }
+    ensures { FrontRead (transmit_slots page.now first posted) sizes.old sizes.new result }
 {
     let head = DataSlot::at(page, first);
     let more = head.more_data();
     let announced = head.extra_follows();
     if !announced {
-        let none = scanning::extras_so_far(Shape::Whole, 0, 0, 0);
-        return read_rest(page, first, posted, none, more, sizes);
+        return read_rest(page, first, posted, Extras::NONE, more, sizes);
     }
-    let extras = scanning::read_extras(page, first, posted, announced);
-    let shape = extras.shape;
-    match shape {
-        Shape::Misshapen => Front::Misshapen,
-        Shape::Beginning => Front::Beginning,
-        Shape::Whole => read_rest(page, first, posted, extras, more, sizes),
-    }
+    let extras = scanning::read_extras(page, first, posted, announced)?;
+    read_rest(page, first, posted, extras, more, sizes)
 }

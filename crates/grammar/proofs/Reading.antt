@@ -7,32 +7,28 @@ use native.Mathlib.Omega.{arith}
 use native.Mathlib.Numerals.{add-one}
 use lib.ListN.{length, take}
 use lib.Seq.{get_or-take}
+use Rattle.std.specs.Prelude.{Ok, Err}
 use Rattle.words.specs.Word.{splice, bit}
 use Rattle.words.proofs.Word.{no_confusion}
 use Rattle.ring.proofs.Ring.{slots_take, slots_drop, slots_length}
 use Rattle.netif.specs.Slot.{Slot, size, more_data, extra_follows, transmit_slot, transmit_slots}
 use Rattle.netif.specs.Decode.{data_of}
-use Rattle.grammar.specs.Divide.{whole, beginning, misshapen, scan, divide, alone}
+use Rattle.grammar.specs.Divide.{whole, scan, divide, alone}
 use Rattle.grammar.specs.Packet.{first_of, later_of, sizes, gso_size_of, gso_type_of}
-use Rattle.grammar.specs.Stages.{outline_of, front_of, FrontRead, behind, going_on, ExtrasRead, AfterExtras}
+use Rattle.grammar.specs.Stages.{outline_of, front_of, FrontRead, cut_of, behind, AllExtras, AfterExtras}
 use Rattle.netif.specs.declared.DataSlot.{DataSlot}
-use Rattle.grammar.specs.declared.Shape.{Shape}
-use Rattle.grammar.specs.declared.Shape.TheVariants as shape
+use Rattle.grammar.specs.declared.Unfinished.{Unfinished}
+use Rattle.grammar.specs.declared.Unfinished.TheVariants.{Beginning, Misshapen}
 use Rattle.grammar.specs.declared.Extras.{Extras}
-use Rattle.grammar.specs.declared.Front.TheVariants as front
 use Rattle.grammar.proofs.Within.{within_one}
 use Rattle.grammar.proofs.Loop.{nothing_owed, more_bit, follows_bit}
 
 -- ---- no whole packet
 
-module _ (l : List Slot) (before after : List ℕ) where
-  pub read_beginning : divide l ≡ beginning → FrontRead l before after front.Beginning
-  unfolding front_of
-  read_beginning h = record { answer = rw h; table = λ d e k. no_confusion cc }
-
-  pub read_misshapen : divide l ≡ misshapen → FrontRead l before after front.Misshapen
-  unfolding front_of
-  read_misshapen h = record { answer = rw h; table = λ d e k. no_confusion cc }
+pub read_unfinished : (l : List Slot) (before after : List ℕ) (e : Unfinished) → divide l ≡ cut_of e → FrontRead l before after (Err e)
+unfolding front_of
+read_unfinished l before after Beginning h = record { answer = rw h; table = λ d e k. no_confusion cc }
+read_unfinished l before after Misshapen h = record { answer = rw h; table = λ d e k. no_confusion cc }
 
 -- ---- the gso fields of the slots in front
 
@@ -45,24 +41,22 @@ gso_type_front zero n l h = refl
 gso_type_front (suc e) n l h = rw (get_or-take n l (suc e) [] h)
 
 module _ (page : List ℕ) (first posted : ℕ) where
-  -- the first slot and the extras behind it: what the whole run comes to
-  pub extras_read : (head : DataSlot) (x m : Bool) (r : Extras) → 1 ≤ posted → head ≡ data_of (transmit_slot page first) → x ≡ bit 3 head.flags → m ≡ bit 2 head.flags
-      → ExtrasRead page first posted x r → (s : Shape) → r.shape ≡ s
-      → divide (transmit_slots page first posted) ≡ going_on s (scan (behind page first posted (r.count + 1)) 1 r.count false m)
+  -- the first slot: what the whole run comes to, by the slots behind it
+  pub head_read : (head : DataSlot) (x m : Bool) → 1 ≤ posted → head ≡ data_of (transmit_slot page first) → x ≡ bit 3 head.flags → m ≡ bit 2 head.flags
+      → divide (transmit_slots page first posted) ≡ scan (behind page first posted 1) 1 0 x m
   unfolding divide
-  extras_read head x m r h f p q e s i =
+  head_read head x m h f p q =
       let z : posted ≡ suc (posted - 1) = omega arith in
       ap (λ (k : ℕ). divide (transmit_slots page first k)) z
-      ∙ rw (sym (follows_bit _ head f) ∙ sym p, sym (more_bit _ head f) ∙ sym q, ← add-one first) (e.rest m)
-      ∙ ap (λ (t : Shape). going_on t (scan (behind page first posted (r.count + 1)) 1 r.count false m)) i
+      ∙ rw (sym (follows_bit _ head f) ∙ sym p, sym (more_bit _ head f) ∙ sym q, ← add-one first)
 
-  -- where the extras are whole, the later data slots are next
-  pub after_extras : (head : DataSlot) (x m : Bool) (r : Extras) → 1 ≤ posted → head ≡ data_of (transmit_slot page first) → x ≡ bit 3 head.flags → m ≡ bit 2 head.flags
-      → ExtrasRead page first posted x r → r.shape ≡ shape.Whole → AfterExtras page first posted m r
-  after_extras head x m r h f p q e i = record { few = e.few; limit = e.limit; rest = extras_read head x m r h f p q e shape.Whole i; gso_size = e.gso_size; gso_type = e.gso_type }
+  -- where all extras were read, the later data slots are next
+  pub after_extras : (x m : Bool) (r : Extras) → divide (transmit_slots page first posted) ≡ scan (behind page first posted 1) 1 0 x m
+      → AllExtras page first posted x r → AfterExtras page first posted m r
+  after_extras x m r h e = record { few = e.few; limit = e.limit; rest = h ∙ e.rest m; gso_size = e.gso_size; gso_type = e.gso_type }
 
   -- where none is announced, there are none
-  pub no_extras : 1 ≤ posted → ExtrasRead page first posted false (record { shape = shape.Whole; count = 0; gso_size = 0; gso_type = 0 })
+  pub no_extras : 1 ≤ posted → AllExtras page first posted false (record { count = 0; gso_size = 0; gso_type = 0 })
   no_extras h = record { few = h; limit = within_one; rest = λ more. refl; gso_size = refl; gso_type = refl }
 
   -- ---- a packet of k later data slots and e extras
@@ -100,10 +94,10 @@ module _ (page : List ℕ) (first posted : ℕ) where
         → h ≡ data_of (transmit_slot page first) → sum ≡ sizes (transmit_slots page (first + (e + 1)) k)
         → z ≡ gso_size_of e (transmit_slots page first posted) → t ≡ gso_type_of e (transmit_slots page first posted)
         → after ≡ splice before 1 (map size (transmit_slots page (first + (e + 1)) k))
-        → FrontRead (transmit_slots page first posted) before after (front.Whole (record { head = h; slots = k + 1 + e; extras = e; later_bytes = sum; gso_size = z; gso_type = t }))
+        → FrontRead (transmit_slots page first posted) before after (Ok (record { head = h; slots = k + 1 + e; extras = e; later_bytes = sum; gso_size = z; gso_type = t }))
     unfolding front_of
     read_whole h sum z t before after w p q r s u = record {
-      answer = ap front.Whole (outline_here h sum z t p q r s) ∙ sym (rw w);
+      answer = ap Ok (outline_here h sum z t p q r s) ∙ sym (rw w);
       table = λ d f v.
           let a : d ≡ k + 1 = cc in
           let b : f ≡ e = cc in

@@ -3,10 +3,9 @@
 
 use netif::DataSlot;
 
-// How far the slots that were read make a packet.
-#[derive(Clone, Copy)]
-pub enum Shape {
-    Whole,
+// Why the slots that were read make no whole packet: they are a proper beginning of one, or begin none.
+#[derive(Clone, Copy, PartialEq, Eq, Debug)]
+pub enum Unfinished {
     Beginning,
     Misshapen,
 }
@@ -14,16 +13,23 @@ pub enum Shape {
 // The extras of a packet: how many, and the last one's gso fields.
 #[derive(Clone, Copy)]
 pub struct Extras {
-    pub shape: Shape,
     pub count: u32,
     pub gso_size: u16,
     pub gso_type: u8,
 }
 
+impl Extras {
+    // The extras of a packet that has none.
+    pub const NONE: Extras = Extras {
+        count: 0,
+        gso_size: 0,
+        gso_type: 0,
+    };
+}
+
 // The later data slots of a packet: how many, and their sizes together.
 #[derive(Clone, Copy)]
 pub struct Later {
-    pub shape: Shape,
     pub count: u32,
     pub sum: u32,
 }
@@ -38,12 +44,4 @@ pub struct Outline {
     pub later_bytes: u32,
     pub gso_size: u16,
     pub gso_type: u8,
-}
-
-// What stands at the front of the slots posted.
-#[derive(Clone, Copy)]
-pub enum Front {
-    Whole(Outline),
-    Beginning,
-    Misshapen,
 }
