@@ -4,7 +4,6 @@ use Prim.Native.Nat.{ℕ, ◌/◌, ◌^◌}
 use lib.Dec.{eqb}
 use lib.Bits.{and_mask}
 use Rattle.words.specs.Word.{bit}
-use borrow.Author.Rules.{rules}
 use Rattle.words.proofs.bit_of.Goals as goal
 
 pub returns : goal.returns
