@@ -1,46 +1,19 @@
 // The copy of bytes, eight a pass.
 #![tactic(auto)]
 
-ghost use Rattle.std.specs.Prelude.{◌≡◌, ◌+◌, ◌*◌, ◌/◌, ◌≤◌, ◌<◌, length, take, drop};
+ghost use Rattle.std.specs.Prelude.{◌≡◌, ◌+◌, ◌*◌, ◌/◌, ◌≤◌, ◌<◌, length, take};
 ghost use Rattle.words.specs.Word.{splice};
-
-// The eight bytes at a position.
-fn eight_at(b: &[u8], at: usize) -> [u8; 8]
-    requires { at + 8 ≤ length b.now }
-    ensures { result ≡ take 8 (drop at b.now) }
-{
-    let mut bytes = [0u8; 8];
-    let mut i: usize = 0;
-    while i < 8 {
-        bytes[i] = b[at + i];
-        i += 1;
-    }
-    bytes
-}
-
-// Stores eight bytes at a position.
-fn put_eight(b: &mut [u8], at: usize, bytes: [u8; 8])
-    requires { at + 8 ≤ length b.old }
-    ensures { b.new ≡ splice b.old at bytes }
-{
-    let mut j: usize = 0;
-    while j < 8 {
-        b[at + j] = bytes[j];
-        j += 1;
-    }
-}
 
 // Copies the first bytes of src to the front of dst in passes of eight; the number of passes made.
 fn copy_passes(src: &[u8], dst: &mut [u8], passes: usize) -> usize
     requires { (8 * passes ≤ length src.now) × (8 * passes ≤ length dst.old) }
     ensures { (dst.new ≡ splice dst.old 0 (take (8 * passes) src.now)) × (result ≡ passes) }
 {
-    let mut k: usize = 0;
-    while k < passes {
-        put_eight(dst, 8 * k, eight_at(src, 8 * k));
-        k += 1;
+    for k in 0..passes {
+        let eight = words::bytes_at::<8>(src, 8 * k);
+        words::put_bytes(dst, 8 * k, &eight);
     }
-    k
+    passes
 }
 
 // Copies the first bytes of src, at most a page, to the front of dst in passes of eight; the number of passes. They go
@@ -62,13 +35,10 @@ fn copy_short(src: &[u8], dst: &mut [u8])
     requires { (length src.now ≤ length dst.old) × (length src.now < 8) }
     ensures { dst.new ≡ splice dst.old 0 src.now }
 {
-    let n = src.len();
-    let mut i: usize = 0;
-    while i < 7 {
-        if i < n {
+    for i in 0..7 {
+        if i < src.len() {
             dst[i] = src[i];
         }
-        i += 1;
     }
 }
 
@@ -84,7 +54,7 @@ pub fn copy(src: &[u8], dst: &mut [u8]) -> usize
             copy_short(src, dst);
             return 0;
         }
-        put_eight(dst, n - 8, eight_at(src, n - 8));
+        words::put_bytes(dst, n - 8, &words::bytes_at::<8>(src, n - 8));
     }
     copy_eights(src, dst)
 }

@@ -21,9 +21,9 @@ met j =
     let e = length src - 8 in
     elim j.if-n-ne0.branch [
       | then-n-ne0+else-n-lt8 w ↦
-          let last : w.put_eight.new.b ≡ splice a.dst.now e (drop e src)
-          = w.put_eight.ensures ∙ ap (splice a.dst.now e) (w.eight_at.ensures ∙ take_all 8 (drop e src) (simp length-drop (omega arith))) in (
-            ap length w.dst-is ∙ w.put_eight.auto.b,
+          let last : w.put_bytes.new.b ≡ splice a.dst.now e (drop e src)
+          = w.put_bytes.ensures ∙ ap (splice a.dst.now e) (w.bytes_at.ensures ∙ take_all 8 (drop e src) (simp length-drop (omega arith))) in (
+            ap length w.dst-is ∙ w.put_bytes.auto.b,
             ap (λ d. splice d 0 (take (8 * (length src / 8)) src)) (w.dst-is ∙ last)
                 ∙ splice_whole a.dst.now src e (8 * (length src / 8)) (omega arith) (omega arith) (omega (arith, j.requires.0)),
           )

@@ -1,12 +1,9 @@
 -- `copying::copy_passes` meets its contract. After k passes the first 8 * k bytes of src are at the front of dst.
 use mathlib.Core.Path.{◌≡◌}
-use Prim.Native.Nat.{◌-◌, ◌*◌, ◌≤◌}
-use lib.ListN.{length, take}
+use Prim.Native.Nat.{◌*◌}
+use lib.ListN.{take}
 use Rattle.words.specs.Word.{splice}
 use Rattle.copying.proofs.copy_passes.Given as goal
 
 abbrev pub invariant-loop-k : goal.invariant-loop-k
-invariant-loop-k l = (l.k ≤ l.passes) × (length l.dst ≡ length l.initial.dst) × (l.dst ≡ splice l.initial.dst 0 (take (8 * l.k) l.src))
-
-abbrev pub decreases-loop-k : goal.decreases-loop-k
-decreases-loop-k l = l.passes - l.k
+invariant-loop-k l = l.dst ≡ splice l.initial.dst 0 (take (8 * l.k) l.src)
