@@ -2,10 +2,9 @@
 #![tactic(auto)]
 
 ghost use Rattle.std.specs.Prelude.{◌≡◌, List, ℕ, ◌+◌, ◌*◌, ◌≤◌, length};
-ghost use Rattle.ring.specs.Ring.{page_size};
 ghost use Rattle.netif.specs.Decode.{data_of};
 ghost use Rattle.netif.specs.Slot.{transmit_slot};
-ghost use Rattle.answer.specs.declared.Verdict.TheVariants.{Good};
+ghost use Rattle.answer.specs.Verdict.{good};
 ghost use Rattle.packet.specs.Stages.{slot_page};
 ghost use Rattle.packet.specs.Judge.{judge};
 ghost use Rattle.held.specs.declared.Held.{Held};
@@ -13,10 +12,9 @@ ghost use Rattle.transmit.specs.declared.Answer.TheVariants.{Done};
 ghost use Rattle.transmit.specs.Take.{go_on, summary_of};
 ghost use Rattle.transmit.specs.Stages.{Lent, Gives, take_whole, packet_one, alone_outline, HandedOne};
 
-use answer::Verdict;
 use grammar::Outline;
 use netif::DataSlot;
-use packet::Part;
+use ring::Page;
 use transmit::Answer;
 
 // The outline of a packet that is one slot.
@@ -38,7 +36,7 @@ fn accept_alone(full: bool, head: DataSlot, page: u32, window: &[u8], frame: &mu
     requires { (4096 * page + 4096 ≤ length window.now) × (head.offset + head.size ≤ 4096) }
     ensures { (table ring : List ℕ) (first replied : ℕ) (l : List Held) → Lent first replied full l
         → head ≡ data_of (transmit_slot ring first)
-        → judge table window.now 0 (packet_one ring first) ≡ Good
+        → judge table window.now 0 (packet_one ring first) ≡ good
         → page ≡ slot_page table (transmit_slot ring first)
         → Gives (take_whole table window.now (go_on first replied) ring frame.old l 0 (packet_one ring first))
         (go_on first replied) l result ring frame.new }
@@ -60,46 +58,28 @@ pub fn settle_alone(
     full: bool,
     grants: &[u8],
     window: &[u8],
-    ring: &mut [u8],
+    ring: &mut Page,
     frame: &mut [u8],
 ) -> Answer
-    requires { length ring.old ≡ page_size }
     ensures { (l : List Held) → Lent first replied full l → Gives
         (take_whole grants.now window.now (go_on first replied) ring.old frame.old l 0 (packet_one ring.old first))
         (go_on first replied) l result ring.new frame.new }
 {
-    let head = DataSlot::at(ring, first);
-    match causes::judge_sizes(head.size, 0) {
-        Verdict::Bad { cause, place } => settling::refuse(
-            first,
-            replied,
-            full,
-            outline_of(head),
-            cause,
-            place,
-            ring,
-        ),
-        Verdict::Good => match causes::judge_slot(grants, window, head, head.size, 0) {
-            Part::Bad { cause, place } => settling::refuse(
-                first,
-                replied,
-                full,
-                outline_of(head),
-                cause,
-                place,
-                ring,
-            ),
-            Part::At(page) => accept_alone(full, head, page, window, frame),
-        },
+    let head = ring::read::<DataSlot>(ring, first);
+    if let Err(fault) = causes::judge_sizes(head.size, 0) {
+        return settling::refuse(first, replied, full, outline_of(head), fault, ring);
+    }
+    match causes::judge_slot(grants, window, head, head.size, 0) {
+        Err(fault) => settling::refuse(first, replied, full, outline_of(head), fault, ring),
+        Ok(page) => accept_alone(full, head, page, window, frame),
     }
 }
 
 // Hands over the packet of one slot at the counter, if it is good and the frame buffer has room for it; whether it did.
-pub fn hand_over(first: u32, grants: &[u8], window: &[u8], ring: &[u8], frame: &mut [u8]) -> bool
-    requires { length ring.now ≡ page_size }
+pub fn hand_over(first: u32, grants: &[u8], window: &[u8], ring: &Page, frame: &mut [u8]) -> bool
     ensures { HandedOne grants.now window.now ring.now first frame.old result frame.new }
 {
-    let head = DataSlot::at(ring, first);
+    let head = ring::read::<DataSlot>(ring, first);
     let size = head.size;
     if size < 14 {
         return false;
@@ -108,8 +88,8 @@ pub fn hand_over(first: u32, grants: &[u8], window: &[u8], ring: &[u8], frame: &
         return false;
     }
     match causes::judge_slot(grants, window, head, size, 0) {
-        Part::Bad { cause, place } => false,
-        Part::At(page) => {
+        Err(_) => false,
+        Ok(page) => {
             gathering::copy_part(window, page, head.offset, size, frame, 0);
             true
         }
@@ -117,9 +97,8 @@ pub fn hand_over(first: u32, grants: &[u8], window: &[u8], ring: &[u8], frame: &
 }
 
 // The answer to a packet of one slot at the counter that was handed over.
-pub fn handed_over(first: u32, ring: &[u8]) -> Answer
-    requires { length ring.now ≡ page_size }
+pub fn handed_over(first: u32, ring: &Page) -> Answer
     ensures { result ≡ Done (summary_of 0 (packet_one ring.now first)) 0 }
 {
-    settling::accept(outline_of(DataSlot::at(ring, first)))
+    settling::accept(outline_of(ring::read::<DataSlot>(ring, first)))
 }

@@ -2,11 +2,12 @@
 #![tactic(auto)]
 
 ghost use Rattle.std.specs.Prelude.{◌≡◌, List, ℕ, length};
-ghost use Rattle.ring.specs.Ring.{page_size, asking};
+ghost use Rattle.ring.specs.Ring.{asking};
 ghost use Rattle.answer.specs.Report.{halt, go_on, spoiled_report, done_report};
 ghost use Rattle.answer.specs.Effect.{consume, Gives};
 
-use ring::Side;
+use ring::{Page, Side};
+
 
 // A ring's counter of slots consumed, and its halted mark.
 #[derive(Clone, Copy)]
@@ -53,11 +54,11 @@ pub struct Outcome {
     pub queue: Queue,
 }
 
-// Whether a packet or the requests for a frame are good, or the first cause found and its place.
-#[derive(Clone, Copy)]
-pub enum Verdict {
-    Good,
-    Bad { cause: u8, place: u32 },
+// Why a packet or the requests for a frame are not good: the first cause found, and its place.
+#[derive(Clone, Copy, PartialEq, Eq, Debug)]
+pub struct Fault {
+    pub cause: u8,
+    pub place: u32,
 }
 
 // An answer that leaves all as it was.
@@ -81,8 +82,7 @@ pub fn halt(answer: Answer, consumed: u32) -> Outcome
 }
 
 // An answer for which slots are missing at a counter: asks for an event.
-pub fn ask(answer: Answer, consumed: u32, ring: &mut [u8]) -> Outcome
-    requires { length ring.old ≡ page_size }
+pub fn ask(answer: Answer, consumed: u32, ring: &mut Page) -> Outcome
     ensures { (result ≡ record { answer = answer; queue = go_on consumed }) × (ring.new ≡ asking ring.old) }
 {
     ring::ask_event(ring);
@@ -106,17 +106,16 @@ fn go_on(consumed: u32) -> Queue
 }
 
 // Ends a call on slots that are bad and have their replies: moves rsp_prod behind them.
-pub fn spoil(ring: &mut [u8], old: u32, slots: u32, cause: u8, place: u32) -> Outcome
-    requires { length ring.old ≡ page_size }
-    ensures { (buffer : List ℕ) → Gives (consume (spoiled_report cause place slots) old slots ring.old buffer) result ring.new
+pub fn spoil(ring: &mut Page, old: u32, slots: u32, fault: Fault) -> Outcome
+    ensures { (buffer : List ℕ) → Gives (consume (spoiled_report fault.cause fault.place slots) old slots ring.old buffer) result ring.new
         buffer }
 {
     let new = ring::ahead(old, slots);
     let notify = ring::publish(ring, Side::Replies, old, new);
     Outcome {
         answer: Answer::Spoiled {
-            cause,
-            place,
+            cause: fault.cause,
+            place: fault.place,
             slots,
             notify,
         },
@@ -125,8 +124,7 @@ pub fn spoil(ring: &mut [u8], old: u32, slots: u32, cause: u8, place: u32) -> Ou
 }
 
 // Ends a call on slots that were served and have their replies: moves rsp_prod behind them.
-pub fn finish(ring: &mut [u8], old: u32, summary: Summary) -> Outcome
-    requires { length ring.old ≡ page_size }
+pub fn finish(ring: &mut Page, old: u32, summary: Summary) -> Outcome
     ensures { (buffer : List ℕ) → Gives (consume (done_report summary) old summary.slots ring.old buffer) result ring.new
         buffer }
 {

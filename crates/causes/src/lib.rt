@@ -7,56 +7,52 @@ ghost use Rattle.netif.specs.Slot.{Slot};
 ghost use Rattle.netif.specs.Decode.{data_of};
 ghost use Rattle.packet.specs.Stages.{slot_part};
 
-use answer::Verdict;
-use grant::Source;
+use answer::Fault;
+use grant::Unlent;
 use netif::DataSlot;
-use packet::Part;
 
 // Causes 1 and 3, of the total and the later sizes together. The number 2 is reserved.
-pub fn judge_sizes(total: u16, later: u32) -> Verdict
+pub fn judge_sizes(total: u16, later: u32) -> Result<(), Fault>
     ensures { result ≡ judge_sizes total later }
 {
     if total < 14 {
-        return Verdict::Bad { cause: 1, place: 0 };
+        return Err(Fault { cause: 1, place: 0 });
     }
     if (total as u32) < later {
-        return Verdict::Bad { cause: 3, place: 0 };
+        return Err(Fault { cause: 3, place: 0 });
     }
-    Verdict::Good
+    Ok(())
 }
 
 // Cause 6, of the last extra's gso fields.
-pub fn judge_gso(extras: u32, gso_size: u16, gso_type: u8) -> Verdict
+pub fn judge_gso(extras: u32, gso_size: u16, gso_type: u8) -> Result<(), Fault>
     ensures { result ≡ judge_gso extras gso_size gso_type }
 {
     if extras == 0 {
-        return Verdict::Good;
+        return Ok(());
     }
     if gso_size == 0 {
-        return Verdict::Bad {
+        return Err(Fault {
             cause: 6,
             place: extras,
-        };
+        });
     }
-    if gso_type == 1 {
-        return Verdict::Good;
+    if gso_type == 1 || gso_type == 2 {
+        return Ok(());
     }
-    if gso_type == 2 {
-        return Verdict::Good;
-    }
-    Verdict::Bad {
+    Err(Fault {
         cause: 6,
         place: extras,
-    }
+    })
 }
 
 // Where the part of a data slot lies, or its cause 4 or 5, at its place of the packet.
-pub fn judge_slot(grants: &[u8], window: &[u8], slot: DataSlot, size: u16, place: u32) -> Part
+pub fn judge_slot(grants: &[u8], window: &[u8], slot: DataSlot, size: u16, place: u32) -> Result<u32, Fault>
     ensures { (s : Slot) → slot ≡ data_of s → result ≡ slot_part grants.now window.now place s size }
 {
     match grant::source_of(grants, window, slot.gref, slot.offset, size) {
-        Source::Unfit => Part::Bad { cause: 4, place },
-        Source::Outside => Part::Bad { cause: 5, place },
-        Source::At(page) => Part::At(page),
+        Ok(page) => Ok(page),
+        Err(Unlent::Unfit) => Err(Fault { cause: 4, place }),
+        Err(Unlent::Outside) => Err(Fault { cause: 5, place }),
     }
 }

@@ -2,13 +2,14 @@
 #![tactic(auto)]
 
 ghost use Rattle.std.specs.Prelude.{◌≡◌, ◌≤◌, true, List, length};
-ghost use Rattle.ring.specs.Ring.{page_size, posted};
+ghost use Rattle.ring.specs.Ring.{posted};
 ghost use Rattle.held.specs.declared.Held.{Held};
 ghost use Rattle.transmit.specs.Take.{go_on, overflow, take_front, transmit_take};
 ghost use Rattle.transmit.specs.Stages.{Lent, Found, Gives, ComesToOne};
 
-use grammar::Front;
+use grammar::Unfinished;
 use netif::DataSlot;
+use ring::{Page, RingSlot};
 use transmit::{Answer, Queue};
 
 // Slots are posted: what stands at their front is taken, waited for or refused.
@@ -19,10 +20,10 @@ fn take_front(
     count: u32,
     grants: &[u8],
     window: &[u8],
-    ring: &mut [u8],
+    ring: &mut Page,
     frame: &mut [u8],
 ) -> Answer
-    requires { (length ring.old ≡ page_size) × (count ≡ posted ring.old first) × (1 ≤ count) × (count ≤ 256) }
+    requires { (count ≡ posted ring.old first) × (1 ≤ count) × (count ≤ 256) }
     ensures { (l : List Held) → Lent first replied full l → Gives
         (take_front grants.now window.now (go_on first replied) ring.old frame.old l)
         (go_on first replied) l result ring.new frame.new }
@@ -32,20 +33,19 @@ fn take_front(
     }
     let mut sizes = [0u16; 18];
     match divider::read(ring, first, count, &mut sizes) {
-        Front::Misshapen => Answer::Misshapen,
-        Front::Beginning => {
+        Err(Unfinished::Misshapen) => Answer::Misshapen,
+        Err(Unfinished::Beginning) => {
             ring::ask_event(ring);
             Answer::Waiting
         }
-        Front::Whole(o) => settling::settle(
+        Ok(o) => settling::settle(
             first, replied, full, o, &mut sizes, grants, window, ring, frame,
         ),
     }
 }
 
 // Whether more than 256 slots are posted and not replied to, or fewer than are held.
-fn overflows(consumed: u32, replied: u32, ring: &[u8]) -> bool
-    requires { length ring.now ≡ page_size }
+fn overflows(consumed: u32, replied: u32, ring: &Page) -> bool
     ensures { result ≡ overflow consumed replied ring.now }
 {
     let unanswered = ring::posted(ring, replied);
@@ -69,9 +69,9 @@ pub fn decide(
         (transmit_take grants.now window.now queue ring.old frame.old l)
         queue l result ring.new frame.new }
 {
-    if !ring::is_page(ring) {
+    let Some(ring) = ring.as_mut_array::<{ ring::PAGE_SIZE }>() else {
         return Answer::BadPage;
-    }
+    };
     if !sound {
         return Answer::BadRecords;
     }
@@ -102,9 +102,9 @@ pub fn decide(
 pub fn comes_to_one(queue: Queue, sound: bool, full: bool, ring: &[u8]) -> bool
     ensures { result ≡ true → ComesToOne queue sound full ring.now }
 {
-    if !ring::is_page(ring) {
+    let Some(ring) = ring.as_array::<{ ring::PAGE_SIZE }>() else {
         return false;
-    }
+    };
     if !sound {
         return false;
     }

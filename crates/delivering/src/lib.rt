@@ -2,7 +2,6 @@
 #![tactic(auto)]
 
 ghost use Rattle.std.specs.Prelude.{◌≡◌, false, ◌≤◌, ℕ, List, length, take};
-ghost use Rattle.ring.specs.Ring.{page_size};
 ghost use Rattle.netif.specs.Slot.{receive_slots};
 ghost use Rattle.grant.specs.Lookup.{write_page};
 ghost use Rattle.answer.specs.Report.{plain_summary};
@@ -10,15 +9,15 @@ ghost use Rattle.answer.specs.Effect.{Gives};
 ghost use Rattle.receive.specs.Put.{needed, scatter, refuse, deliver, settle};
 ghost use Rattle.receive.specs.Stages.{AllUsable, Judged};
 
-use answer::{Outcome, Summary, Verdict};
-use grant::Page;
+use answer::{Fault, Outcome, Summary};
 use netif::Request;
+use ring::Page;
 
 // The cause of a request whose grant is not fit.
 pub const UNFIT: u8 = 4;
 
 // The page that a request names, if its grant is fit to be written.
-pub fn page_of(grants: &[u8], window: &[u8], request: Request) -> Page
+pub fn page_of(grants: &[u8], window: &[u8], request: Request) -> Option<u32>
     ensures { result ≡ write_page grants.now window.now request.gref }
 {
     grant::fit_to_write(grants, window, request.gref)
@@ -29,38 +28,38 @@ pub fn page_of(grants: &[u8], window: &[u8], request: Request) -> Page
 fn judge(
     grants: &[u8],
     window: &[u8],
-    ring: &[u8],
+    ring: &Page,
     first: u32,
     count: u32,
     pages: &mut [u32; pieces::MOST],
-) -> Verdict
-    requires { (length ring.now ≡ page_size) × (count ≤ 16) × (length pages.old ≡ 16) }
+) -> Result<(), Fault>
+    requires { count ≤ 16 }
     ensures { Judged grants.now window.now (receive_slots ring.now first count)
         pages.new result }
 {
     let mut i: u32 = 0;
     while i < count {
-        let request = Request::at(ring, ring::ahead(first, i));
-        let Page::Fit(page) = page_of(grants, window, request) else {
-            return Verdict::Bad {
+        let request = ring::read::<Request>(ring, ring::ahead(first, i));
+        let Some(page) = page_of(grants, window, request) else {
+            return Err(Fault {
                 cause: UNFIT,
                 place: i,
-            };
+            });
         };
         pages[i as usize] = page;
         i += 1;
     }
-    Verdict::Good
+    Ok(())
 }
 
 // Consumes requests of which one is unfit: each gets an error. The window is not lent, so it stays.
-pub fn refuse(ring: &mut [u8], old: u32, count: u32, cause: u8, place: u32) -> Outcome
-    requires { (length ring.old ≡ page_size) × (count ≤ 16) }
-    ensures { (window : List ℕ) → Gives (refuse old ring.old window (receive_slots ring.old old count) cause place) result
+pub fn refuse(ring: &mut Page, old: u32, count: u32, fault: Fault) -> Outcome
+    requires { count ≤ 16 }
+    ensures { (window : List ℕ) → Gives (refuse old ring.old window (receive_slots ring.old old count) fault.cause fault.place) result
         ring.new window }
 {
     pieces::reply_errors(ring, old, count);
-    answer::spoil(ring, old, count, cause, place)
+    answer::spoil(ring, old, count, fault)
 }
 
 // What is said of a frame of so many bytes in so many pieces.
@@ -80,15 +79,13 @@ pub fn summary_of(slots: u32, total: u32) -> Summary
 // Consumes requests that are all fit: the pages of the table get the pieces of the frame.
 fn deliver(
     window: &mut [u8],
-    ring: &mut [u8],
+    ring: &mut Page,
     old: u32,
     count: u32,
     pages: &[u32; pieces::MOST],
     frame: &[u8],
 ) -> Outcome
-    requires { (length ring.old ≡ page_size)
-        × (length pages.now ≡ 16)
-        × (length frame.now ≤ 65535)
+    requires { (length frame.now ≤ 65535)
         × (count ≡ needed (length frame.now))
         × AllUsable (length window.old) (take count pages.now) }
     ensures { Gives
@@ -104,19 +101,19 @@ fn deliver(
 pub fn settle(
     grants: &[u8],
     window: &mut [u8],
-    ring: &mut [u8],
+    ring: &mut Page,
     old: u32,
     count: u32,
     frame: &[u8],
 ) -> Outcome
-    requires { (length ring.old ≡ page_size) × (length frame.now ≤ 65535) × (count ≡ needed (length frame.now)) }
+    requires { (length frame.now ≤ 65535) × (count ≡ needed (length frame.now)) }
     ensures { Gives
         (settle grants.now old ring.old window.old (receive_slots ring.old old count) frame.now)
         result ring.new window.new }
 {
     let mut pages = [0u32; pieces::MOST];
     match judge(grants, window, ring, old, count, &mut pages) {
-        Verdict::Bad { cause, place } => refuse(ring, old, count, cause, place),
-        Verdict::Good => deliver(window, ring, old, count, &pages, frame),
+        Err(fault) => refuse(ring, old, count, fault),
+        Ok(()) => deliver(window, ring, old, count, &pages, frame),
     }
 }

@@ -3,12 +3,13 @@
 
 ghost use Rattle.std.specs.Prelude.{◌≡◌, length};
 ghost use Rattle.words.specs.Word.{splice};
-ghost use Rattle.ring.specs.Ring.{page_size, slot_place};
+ghost use Rattle.ring.specs.Ring.{slot_place};
 ghost use Rattle.netif.specs.Slot.{slot_width, slot_count};
 ghost use Rattle.netif.specs.Encode.{extra_bytes};
 ghost use Rattle.frontend.specs.Post.{flags_for, data_for};
 
 use netif::{DataSlot, Extra};
+use ring::Page;
 
 // The extra's own type.
 const GSO: u16 = 1;
@@ -43,23 +44,21 @@ pub fn flags(more: bool, extra: bool) -> u16
 }
 
 // Writes a data slot at a counter.
-pub fn put_data(ring: &mut [u8], n: u32, gref: u32, flags: u16, size: u16)
-    requires { length ring.old ≡ page_size }
+pub fn put_data(ring: &mut Page, n: u32, gref: u32, flags: u16, size: u16)
     ensures { ring.new ≡ splice ring.old (slot_place slot_width slot_count n) (data_for n gref flags size) }
 {
-    let at = ring::place(DataSlot::WIDTH, DataSlot::COUNT, n);
+    let at = ring::place::<DataSlot>(n);
     words::put_u32(ring, at, gref);
     words::put_pair(ring, at + OFFSET, 0, flags);
     words::put_pair(ring, at + ID, (n % IDS) as u16, size);
 }
 
 // Writes an extra at a counter.
-pub fn put_extra(ring: &mut [u8], n: u32, size: u16, kind: u8)
-    requires { length ring.old ≡ page_size }
+pub fn put_extra(ring: &mut Page, n: u32, size: u16, kind: u8)
     ensures { ring.new ≡ splice ring.old (slot_place slot_width slot_count n)
         (extra_bytes (record { kind = 1; flags = 0; gso_size = size; gso_type = kind })) }
 {
-    let at = ring::place(Extra::WIDTH, Extra::COUNT, n);
+    let at = ring::place::<Extra>(n);
     words::put_pair(ring, at, GSO, size);
     words::put_u32(ring, at + GSO_TYPE, kind as u32);
     words::put_u32(ring, at + UNUSED, 0);

@@ -1,41 +1,44 @@
 -- The guest's side (request 2): a frame laid into pages and posted as one packet, in the order of the answers.
-use Rattle.std.specs.Prelude.{List, [], ◌∷◌, ◌++◌, Bool, true, false, not, cond, ℕ, suc, ◌+◌, ◌-◌, ◌%◌, length, take, drop, ltb, eqb}
+use Rattle.std.specs.Prelude.{List, [], ◌∷◌, ◌++◌, Bool, true, false, not, cond, ℕ, suc, ◌+◌, ◌-◌, ◌%◌, length, take, drop, ltb, eqb, Option, Some, None, Result, Ok, Err}
 use Rattle.ring.specs.Ring.{page_size, wadd, req_prod, posted, notify, with_posted}
 use Rattle.ring.specs.declared.Side.TheVariants.{Requests}
 use Rattle.netif.specs.Slot.{Slot, slot_width, slot_count}
 use Rattle.netif.specs.Encode.{data_bytes, extra_bytes}
 use Rattle.answer.specs.Report.{Report, plain, done_report, plain_summary}
-use Rattle.answer.specs.declared.Verdict.{Verdict}
-use Rattle.answer.specs.declared.Verdict.TheVariants.{Good, Bad}
+use Rattle.answer.specs.Verdict.{Verdict}
 use Rattle.packet.specs.Judge.{judge_gso}
 use Rattle.receive.specs.Put.{bad_length, piece_size, needed, scatter}
 use Rattle.frontend.specs.declared.Gso.{Gso}
-use Rattle.frontend.specs.declared.Gso.TheVariants.{Absent, Given}
-use Rattle.frontend.specs.declared.Answer.{Answer}
-use Rattle.frontend.specs.declared.Answer.TheVariants.{Posted, BadPage, BadLength, NoSlots, BadPages, BadGso}
+use Rattle.frontend.specs.declared.Posted.{Posted}
+use Rattle.frontend.specs.declared.Refusal.{Refusal}
+use Rattle.frontend.specs.declared.Refusal.TheVariants.{BadPage, BadLength, NoSlots, BadPages, BadGso}
 use Rattle.frontend.specs.Pages.{bad_pages, pages_of}
 
 -- ---- gso
 
+-- gso with these fields
+abbrev pub given : (size kind : ℕ) → Option Gso
+given size kind = Some (record { size = size; kind = kind })
+
 -- the extras that it needs, and its fields; without it 0 and 0
-abbrev pub gso_extras : Gso → ℕ
-gso_extras Absent = 0
-gso_extras (Given n t) = 1
+abbrev pub gso_extras : Option Gso → ℕ
+gso_extras None = 0
+gso_extras (Some o) = 1
 
-abbrev pub size_given : Gso → ℕ
-size_given Absent = 0
-size_given (Given n t) = n
+abbrev pub size_given : Option Gso → ℕ
+size_given None = 0
+size_given (Some o) = o.size
 
-abbrev pub type_given : Gso → ℕ
-type_given Absent = 0
-type_given (Given n t) = t
+abbrev pub type_given : Option Gso → ℕ
+type_given None = 0
+type_given (Some o) = o.kind
 
 abbrev pub is_bad : Verdict → Bool
-is_bad Good = false
-is_bad (Bad c k) = true
+is_bad (Ok u) = false
+is_bad (Err f) = true
 
 -- answer 13: cause 6 would refuse it
-unfoldable pub bad_gso : Gso → Bool
+unfoldable pub bad_gso : Option Gso → Bool
 bad_gso o = is_bad (judge_gso (gso_extras o) (size_given o) (type_given o))
 
 -- ---- the packet
@@ -59,12 +62,12 @@ later_for n [] frame = []
 later_for n (g ∷ l) frame = data_for n g (flags_for (others l) false) (length (take piece_size frame)) ∷ later_for (suc n) l (drop piece_size frame)
 
 -- the extra, if there is gso
-abbrev pub extras_for : Gso → List Slot
-extras_for Absent = []
-extras_for (Given n t) = extra_bytes (record { kind = 1; flags = 0; gso_size = n; gso_type = t }) ∷ []
+abbrev pub extras_for : Option Gso → List Slot
+extras_for None = []
+extras_for (Some o) = extra_bytes (record { kind = 1; flags = 0; gso_size = o.size; gso_type = o.kind }) ∷ []
 
 -- the packet from counter n on: the first data slot's size is that of the whole frame
-abbrev pub packet_for : (n : ℕ) → Gso → (refs frame : List ℕ) → List Slot
+abbrev pub packet_for : (n : ℕ) → Option Gso → (refs frame : List ℕ) → List Slot
 packet_for n o [] frame = []
 packet_for n o (g ∷ l) frame =
     data_for n g (flags_for (others l) (ltb 0 (gso_extras o))) (length frame)
@@ -83,20 +86,20 @@ pub record Posting : Type 0 where
   pub window : List ℕ
 
 -- the number and the words of each answer: posted reports slots and notify
-abbrev pub report_of : Answer → Report
-report_of (Posted n notified) = done_report (plain_summary n 0) notified
-report_of BadPage = plain 1
-report_of BadLength = plain 9
-report_of NoSlots = plain 11
-report_of BadPages = plain 12
-report_of BadGso = plain 13
+abbrev pub report_of : Result Posted Refusal → Report
+report_of (Ok p) = done_report (plain_summary p.slots 0) p.notify
+report_of (Err BadPage) = plain 1
+report_of (Err BadLength) = plain 9
+report_of (Err NoSlots) = plain 11
+report_of (Err BadPages) = plain 12
+report_of (Err BadGso) = plain 13
 
 -- an answer that changes nothing
 abbrev pub refused : ℕ → List ℕ → List ℕ → Posting
 refused n page window = record { report = plain n; page = page; window = window }
 
 -- the frame's slots: one for each page, and the extra
-unfoldable pub slots_for : Gso → ℕ → ℕ
+unfoldable pub slots_for : Option Gso → ℕ → ℕ
 slots_for o n = needed n + gso_extras o
 
 -- the references that a frame uses
@@ -104,12 +107,12 @@ abbrev pub used_refs : (refs frame : List ℕ) → List ℕ
 used_refs refs frame = take (needed (length frame)) refs
 
 -- the packet at req_prod
-abbrev pub packet_of : List ℕ → Gso → (refs frame : List ℕ) → List Slot
+abbrev pub packet_of : List ℕ → Option Gso → (refs frame : List ℕ) → List Slot
 packet_of page o refs frame = packet_for (req_prod page) o (used_refs refs frame) frame
 
 module _ (table : List ℕ) where
   -- the packet is posted, and its pages hold the frame
-  unfoldable pub post_packet : List ℕ → List ℕ → Gso → (refs frame : List ℕ) → Posting
+  unfoldable pub post_packet : List ℕ → List ℕ → Option Gso → (refs frame : List ℕ) → Posting
   post_packet page window o refs frame = record {
     report = done_report (plain_summary (slots_for o (length frame)) 0) (notify Requests page (req_prod page) (wadd (req_prod page) (slots_for o (length frame))));
     page = with_posted slot_width slot_count page (packet_of page o refs frame);
@@ -117,7 +120,7 @@ module _ (table : List ℕ) where
   }
 
   -- bad page, bad length, bad gso, bad pages, too few free slots, and then posted
-  unfoldable pub post : List ℕ → List ℕ → (read : ℕ) → Gso → (refs frame : List ℕ) → Posting
+  unfoldable pub post : List ℕ → List ℕ → (read : ℕ) → Option Gso → (refs frame : List ℕ) → Posting
   post page window read o refs frame =
       cond (not (eqb (length page) page_size)) (refused 1 page window)
       (cond (bad_length (length frame)) (refused 9 page window)

@@ -1,10 +1,10 @@
 -- What is posted comes back from a take, and no packet of its total has fewer data slots.
-use Rattle.std.specs.Prelude.{◌≡◌, true, false, List, [], ◌∷◌, ℕ, ◌+◌, ◌-◌, ◌≤◌, ◌<◌, length}
+use Rattle.std.specs.Prelude.{◌≡◌, true, false, List, [], ◌∷◌, ℕ, ◌+◌, ◌-◌, ◌≤◌, ◌<◌, length, Option}
 use Rattle.words.specs.Word.{splice}
 use Rattle.ring.specs.Ring.{wrap, page_size, wadd, req_prod, posted}
 use Rattle.netif.specs.Slot.{Slot, slot_count, transmit_slot}
 use Rattle.grammar.specs.Divide.{whole, divide}
-use Rattle.answer.specs.declared.Verdict.TheVariants.{Good}
+use Rattle.answer.specs.Verdict.{good}
 use Rattle.grant.specs.Grant.{page_of}
 use Rattle.grant.specs.Lookup.{SameWord, SamePage}
 use Rattle.packet.specs.Judge.{total_of, judge}
@@ -53,7 +53,7 @@ NotPast page read replied = posted page replied ≤ posted page read
 
 -- the frame and the gso fields came back: done, with the frame in the buffer's first bytes. The packet is held in a record, and no reply
 -- has left
-pub record ComesBack (o : Gso) (frame buffer : List ℕ) (c replied : ℕ) (page : List ℕ) (records : List Held) (n : ℕ) (r : TakeEffect) : Type 0 where
+pub record ComesBack (o : Option Gso) (frame buffer : List ℕ) (c replied : ℕ) (page : List ℕ) (records : List Held) (n : ℕ) (r : TakeEffect) : Type 0 where
   pub done : r.report.answer ≡ 0
   pub no_cause : r.report.cause ≡ 0
   pub no_place : r.report.place ≡ 0
@@ -74,7 +74,7 @@ pub record ComesBack (o : Gso) (frame buffer : List ℕ) (c replied : ℕ) (page
 -- room
 unfoldable pub RoundTrip : Type 0
 RoundTrip =
-    (table window page : List ℕ) (read : ℕ) (o : Gso) (refs frame : List ℕ) → Refs refs → size_given o < 65536
+    (table window page : List ℕ) (read : ℕ) (o : Option Gso) (refs frame : List ℕ) → Refs refs → size_given o < 65536
     → (post table page window read o refs frame).report.answer ≡ 0
     → (table' window' page' buffer : List ℕ) (replied : ℕ) (records : List Held) (more : ℕ)
     → SameGrants table (post table page window read o refs frame).window table' window' (used_refs refs frame)
@@ -87,14 +87,14 @@ RoundTrip =
 -- with nothing posted behind it, and a count of replies read not past the replies sent, it fits the ring
 unfoldable pub PostFits : Type 0
 PostFits =
-    (table window page : List ℕ) (read : ℕ) (o : Gso) (refs frame : List ℕ)
+    (table window page : List ℕ) (read : ℕ) (o : Option Gso) (refs frame : List ℕ)
     → (post table page window read o refs frame).report.answer ≡ 0
     → (replied : ℕ) → NotPast page read replied
     → FitsRing (req_prod page) replied (slots_for o (length frame))
 
 -- no packet of a total with fewer data slots is done
 unfoldable pub Fewest : Type 0
-Fewest = (table window : List ℕ) (e : ℕ) (p : List Slot) → e < length p → judge table window e p ≡ Good → needed (total_of p) ≤ length p - e
+Fewest = (table window : List ℕ) (e : ℕ) (p : List Slot) → e < length p → judge table window e p ≡ good → needed (total_of p) ≤ length p - e
 
 -- so too of a take that takes d data slots
 unfoldable pub FewestDone : Type 0

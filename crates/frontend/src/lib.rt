@@ -2,17 +2,23 @@
 // `encoding`, `posting`, `one_page` and `post`.
 #![tactic(auto)]
 
-// The gso fields that a packet carries, if any.
-#[derive(Clone, Copy)]
-pub enum Gso {
-    Absent,
-    Given { size: u16, kind: u8 },
+// The gso fields that a packet carries.
+#[derive(Clone, Copy, PartialEq, Eq, Debug)]
+pub struct Gso {
+    pub size: u16,
+    pub kind: u8,
 }
 
-// What posting a frame answers.
-#[derive(Clone, Copy)]
-pub enum Answer {
-    Posted { slots: u32, notify: bool },
+// A frame is posted: the slots of its packet, and whether to notify the backend.
+#[derive(Clone, Copy, PartialEq, Eq, Debug)]
+pub struct Posted {
+    pub slots: u32,
+    pub notify: bool,
+}
+
+// Why a frame is not posted.
+#[derive(Clone, Copy, PartialEq, Eq, Debug)]
+pub enum Refusal {
     BadPage,
     BadLength,
     NoSlots,
@@ -20,10 +26,9 @@ pub enum Answer {
     BadGso,
 }
 
-// How the search over references ends: at one that is not fit, at two places that name one page, or behind the last.
-#[derive(Clone, Copy)]
-pub enum Search {
+// Why references may not be used: one is not fit, or two places name one page.
+#[derive(Clone, Copy, PartialEq, Eq, Debug)]
+pub enum Unusable {
     Unfit,
     Same(u32, u32),
-    Apart,
 }

@@ -1,35 +1,33 @@
 -- What is found by a reference: the page granted, or why it may not be used; and what the lookup then returns.
-use Rattle.std.specs.Prelude.{◌≡◌, List, true, cond, ℕ, ◌+◌, ◌-◌, ◌*◌, ◌≤◌, length, take, drop}
+use Rattle.std.specs.Prelude.{◌≡◌, List, true, cond, ℕ, ◌+◌, ◌-◌, ◌*◌, ◌≤◌, length, take, drop, Option, Some, None, Result, Ok, Err}
 use Rattle.grant.specs.Grant.{word_size, page_of, range_start, range_end, in_range, fit_transmit, fit_receive, page_part, range_of}
-use Rattle.grant.specs.declared.Page.{Page}
-use Rattle.grant.specs.declared.Page.TheVariants as page
-use Rattle.grant.specs.declared.Source.{Source}
-use Rattle.grant.specs.declared.Source.TheVariants as source
+use Rattle.grant.specs.declared.Unlent.{Unlent}
+use Rattle.grant.specs.declared.Unlent.TheVariants.{Unfit, Outside}
 
 module _ (table window : List ℕ) (g : ℕ) where
   -- the page of a grant fit for transmit, and of one fit for receive
-  unfoldable pub read_page : Page
-  read_page = cond (fit_transmit table window g) (page.Fit (page_of table g)) page.Unfit
+  unfoldable pub read_page : Option ℕ
+  read_page = cond (fit_transmit table window g) (Some (page_of table g)) None
 
-  unfoldable pub write_page : Page
-  write_page = cond (fit_receive table window g) (page.Fit (page_of table g)) page.Unfit
+  unfoldable pub write_page : Option ℕ
+  write_page = cond (fit_receive table window g) (Some (page_of table g)) None
 
   -- causes 4 and 5 of a slot's part: first whether the grant is fit, then whether it covers the part
-  unfoldable pub source_of : (offset n : ℕ) → Source
+  unfoldable pub source_of : (offset n : ℕ) → Result ℕ Unlent
   source_of offset n =
       cond (fit_transmit table window g)
-      (cond (in_range table g offset n) (source.At (page_of table g)) source.Outside)
-      source.Unfit
+      (cond (in_range table g offset n) (Ok (page_of table g)) (Err Outside))
+      (Err Unfit)
 
 -- document 01's number of the cause for 7 that each answer tells, 0 where it tells none
-abbrev pub page_cause : Page → ℕ
-page_cause (page.Fit p) = 0
-page_cause page.Unfit = 4
+abbrev pub page_cause : Option ℕ → ℕ
+page_cause (Some p) = 0
+page_cause None = 4
 
-abbrev pub source_cause : Source → ℕ
-source_cause (source.At p) = 0
-source_cause source.Unfit = 4
-source_cause source.Outside = 5
+abbrev pub source_cause : Result ℕ Unlent → ℕ
+source_cause (Ok p) = 0
+source_cause (Err Unfit) = 4
+source_cause (Err Outside) = 5
 
 -- n bytes that stand from an offset of a page on are within what reference g grants: they lie between the start and the end of its
 -- range, and that in the page, and they are a part of what it covers
@@ -42,7 +40,7 @@ pub record WithinGrant (table window : List ℕ) (g offset n : ℕ) (bytes : Lis
 -- what the lookup returns: n bytes from an offset of page p of the window, within every grant by which the page was found
 pub record LookedUp (window : List ℕ) (p offset n : ℕ) (bytes : List ℕ) : Type 0 where
   pub part : bytes ≡ page_part window p offset n
-  pub within : (table : List ℕ) (g : ℕ) → source_of table window g offset n ≡ source.At p → WithinGrant table window g offset n bytes
+  pub within : (table : List ℕ) (g : ℕ) → source_of table window g offset n ≡ Ok p → WithinGrant table window g offset n bytes
 
 -- two windows of one length that are the same on all that the grants fit for transmit cover
 pub record CoveredAlike (table window other : List ℕ) : Type 0 where

@@ -14,17 +14,9 @@ const LENGTH: usize = 6;
 
 const PAGE: usize = 4096;
 
-// The page that a reference names, or that its grant is not fit.
-#[derive(Clone, Copy)]
-pub enum Page {
-    Fit(u32),
-    Unfit,
-}
-
-// The page that a slot's part is read from, or that its grant is not fit, or that the part lies outside of the range granted.
-#[derive(Clone, Copy)]
-pub enum Source {
-    At(u32),
+// Why a slot's part may not be read: its grant is not fit, or the part lies outside of the range granted.
+#[derive(Clone, Copy, PartialEq, Eq, Debug)]
+pub enum Unlent {
     Unfit,
     Outside,
 }
@@ -55,24 +47,24 @@ fn range_end(grants: &[u8], gref: u32) -> usize
 
 // The page that reference g names, if the grant is fit for transmit. It is held against the numbers of words and of pages, which a
 // loop over slots computes once.
-pub fn fit_to_read(grants: &[u8], window: &[u8], gref: u32) -> Page
+pub fn fit_to_read(grants: &[u8], window: &[u8], gref: u32) -> Option<u32>
     ensures { result ≡ read_page grants.now window.now gref }
 {
     if grants.len() / WORD <= gref as usize {
-        return Page::Unfit;
+        return None;
     }
     let word = words::u32_at(grants, WORD * (gref as usize));
     if !words::bit_of(word, 0) {
-        return Page::Unfit;
+        return None;
     }
     if PAGE < range_end(grants, gref) {
-        return Page::Unfit;
+        return None;
     }
     let page = word >> 2;
     if window.len() / PAGE <= page as usize {
-        return Page::Unfit;
+        return None;
     }
-    Page::Fit(page)
+    Some(page)
 }
 
 // Whether the word of reference g has its writable bit.
@@ -92,39 +84,30 @@ fn is_whole(grants: &[u8], gref: u32) -> bool
 }
 
 // The page that reference g names, if the grant is fit for receive.
-pub fn fit_to_write(grants: &[u8], window: &[u8], gref: u32) -> Page
+pub fn fit_to_write(grants: &[u8], window: &[u8], gref: u32) -> Option<u32>
     ensures { result ≡ write_page grants.now window.now gref }
 {
-    match fit_to_read(grants, window, gref) {
-        Page::Unfit => Page::Unfit,
-        Page::Fit(page) => {
-            if is_writable(grants, gref) && is_whole(grants, gref) {
-                Page::Fit(page)
-            } else {
-                Page::Unfit
-            }
-        }
+    let page = fit_to_read(grants, window, gref)?;
+    if is_writable(grants, gref) && is_whole(grants, gref) {
+        Some(page)
+    } else {
+        None
     }
 }
 
 // The page of a slot's part, size bytes from an offset of the page that reference g grants, if the grant is fit and its range
 // has the part.
-pub fn source_of(grants: &[u8], window: &[u8], gref: u32, offset: u16, size: u16) -> Source
+pub fn source_of(grants: &[u8], window: &[u8], gref: u32, offset: u16, size: u16) -> Result<u32, Unlent>
     ensures { result ≡ source_of grants.now window.now gref offset size }
 {
-    match fit_to_read(grants, window, gref) {
-        Page::Unfit => Source::Unfit,
-        Page::Fit(page) => {
-            if offset < range_start(grants, gref) {
-                return Source::Outside;
-            }
-            if range_end(grants, gref) < offset as usize + size as usize {
-                Source::Outside
-            } else {
-                Source::At(page)
-            }
-        }
+    let page = fit_to_read(grants, window, gref).ok_or(Unlent::Unfit)?;
+    if offset < range_start(grants, gref) {
+        return Err(Unlent::Outside);
     }
+    if range_end(grants, gref) < offset as usize + size as usize {
+        return Err(Unlent::Outside);
+    }
+    Ok(page)
 }
 
 // The lookup: the part of the window itself that a slot names, size bytes from an offset of a page. It lies within every grant by

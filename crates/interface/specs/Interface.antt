@@ -1,5 +1,5 @@
 -- The C interface: what each call leaves of all that it was lent.
-use Rattle.std.specs.Prelude.{◌≡◌, List, cond, ℕ, eqb}
+use Rattle.std.specs.Prelude.{◌≡◌, List, cond, ℕ, eqb, Option, Some, None}
 use Rattle.answer.specs.Words.{report_words, Left, Leaves}
 use Rattle.answer.specs.Words.{queue_of as receiveQueueOf}
 use Rattle.held.specs.declared.Held.{Held}
@@ -8,7 +8,6 @@ use Rattle.transmit.specs.Finish.{transmit_finish}
 use Rattle.transmit.specs.Words.{queue_of, TakeLeft, TakeLeaves, FinishLeft, FinishLeaves}
 use Rattle.receive.specs.Put.{receive_put}
 use Rattle.frontend.specs.declared.Gso.{Gso}
-use Rattle.frontend.specs.declared.Gso.TheVariants.{Absent, Given}
 use Rattle.frontend.specs.Post.{post}
 
 -- a take, lent grants, a window, a queue's three words, a ring page, a list of records and a frame buffer
@@ -37,8 +36,8 @@ pub record LentOn : Type 0 where
       → receiveQueueOf l.consumed l.mark ≡ (receive_put grants (receiveQueueOf consumed mark) ring window frame).queue
 
 -- the gso that three words say: none where the first is 0
-unfoldable pub gso_of : (given size type : ℕ) → Gso
-gso_of given size type = cond (eqb given 0) Absent (Given size type)
+unfoldable pub gso_of : (given size type : ℕ) → Option Gso
+gso_of given size type = cond (eqb given 0) None (Some (record { size = size; kind = type }))
 
 -- posting, lent a count of replies read, gso words, grants, a window, a ring page, references and a frame
 pub record PostLeaves (grants window : List ℕ) (read given size type : ℕ) (ring refs frame : List ℕ) (returned : ℕ) (ringAfter windowAfter words : List ℕ) : Type 0 where

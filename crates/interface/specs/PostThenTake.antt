@@ -1,6 +1,6 @@
 -- Request 2's promise of the exported calls: what tollmeander_transmit_post is lent and leaves, and what tollmeander_transmit_take is
 -- then lent and leaves. Counters, marks and reports are the words that C has, buffers their bytes.
-use Rattle.std.specs.Prelude.{◌≡◌, List, [], ◌∷◌, ℕ, ◌+◌, ◌≤◌, ◌<◌, length, get_or}
+use Rattle.std.specs.Prelude.{◌≡◌, List, [], ◌∷◌, ℕ, ◌+◌, ◌≤◌, ◌<◌, length, get_or, Option}
 use Rattle.words.specs.Word.{splice}
 use Rattle.ring.specs.Ring.{page_size, wadd, req_prod}
 use Rattle.netif.specs.Slot.{transmit_slot}
@@ -18,7 +18,7 @@ use Rattle.interface.specs.Interface.{gso_of, TakeCallLeaves, PostLeaves}
 -- what is taken is what was posted: the call is done and reports the slots, the frame's length, no flag, the gso asked for and the first
 -- slot's counter as the ticket; the counter is behind the packet, the ring is not halted, and the frame is in the buffer's first bytes. The
 -- packet is held in the first free record; no reply has left, and the guest is not notified
-pub record GivesBack (o : Gso) (frame buffer : List ℕ) (first replied : ℕ) (ring : List ℕ) (list : List Held) (l : TakeLeft) : Type 0 where
+pub record GivesBack (o : Option Gso) (frame buffer : List ℕ) (first replied : ℕ) (ring : List ℕ) (list : List Held) (l : TakeLeft) : Type 0 where
   pub returns : l.returned ≡ 0
   pub reports : l.words ≡ 0 ∷ 0 ∷ 0 ∷ slots_for o (length frame) ∷ 0 ∷ length frame ∷ 0 ∷ 0 ∷ size_given o ∷ type_given o ∷ first ∷ []
   pub counter : l.consumed ≡ wadd first (slots_for o (length frame))

@@ -1,11 +1,11 @@
 // Slots of the network rings: their bytes taken apart.
 #![tactic(auto)]
 
-ghost use Rattle.std.specs.Prelude.{◌≡◌, length};
+ghost use Rattle.std.specs.Prelude.{◌≡◌};
 ghost use Rattle.words.specs.Word.{bit};
-ghost use Rattle.ring.specs.Ring.{page_size};
-ghost use Rattle.netif.specs.Slot.{slot_width, request_width, transmit_slot, receive_slot};
 ghost use Rattle.netif.specs.Decode.{data_of, extra_of, request_of};
+
+use ring::RingSlot;
 
 // A data slot of the transmit ring.
 #[derive(Clone, Copy)]
@@ -17,25 +17,20 @@ pub struct DataSlot {
     pub size: u16,
 }
 
-impl DataSlot {
-    pub const WIDTH: usize = 12;
+impl RingSlot for DataSlot {
+    ghost WIDTH = { 12 };
 
-    pub const COUNT: u32 = 256;
+    ghost COUNT = { 256 };
 
-    // The bits of the flags.
-    const CHECKSUM_BLANK: u32 = 0;
+    const WIDTH: usize = 12;
 
-    const DATA_VALIDATED: u32 = 1;
+    const COUNT: u32 = 256;
 
-    const MORE_DATA: u32 = 2;
+    ghost decoded = { data_of };
 
-    const EXTRA_FOLLOWS: u32 = 3;
+    ghost laws = { Prim.search (comparing, rules) };
 
-    // A data slot's bytes taken apart.
-    pub fn decode(b: &[u8]) -> Self
-        requires { length b.now ≡ slot_width }
-        ensures { result ≡ data_of b.now }
-    {
+    fn decode(b: &[u8]) -> Self {
         DataSlot {
             gref: words::u32_at(b, 0),
             offset: words::u16_at(b, 4),
@@ -44,14 +39,17 @@ impl DataSlot {
             size: words::u16_at(b, 10),
         }
     }
+}
 
-    // The data slot at a counter.
-    pub fn at(page: &[u8], n: u32) -> Self
-        requires { length page.now ≡ page_size }
-        ensures { result ≡ data_of (transmit_slot page.now n) }
-    {
-        Self::decode(ring::slot(page, Self::WIDTH, Self::COUNT, n))
-    }
+impl DataSlot {
+    // The bits of the flags.
+    const CHECKSUM_BLANK: u32 = 0;
+
+    const DATA_VALIDATED: u32 = 1;
+
+    const MORE_DATA: u32 = 2;
+
+    const EXTRA_FOLLOWS: u32 = 3;
 
     // Whether the frame's checksum is blank.
     pub fn checksum_blank(self) -> bool
@@ -91,22 +89,20 @@ pub struct Extra {
     pub gso_type: u8,
 }
 
-impl Extra {
-    pub const WIDTH: usize = 12;
+impl RingSlot for Extra {
+    ghost WIDTH = { 12 };
 
-    pub const COUNT: u32 = 256;
+    ghost COUNT = { 256 };
 
-    // The type of an extra that carries gso fields.
-    pub const GSO: u8 = 1;
+    const WIDTH: usize = 12;
 
-    // The bit of the flags that announces another.
-    const ANOTHER: u32 = 0;
+    const COUNT: u32 = 256;
 
-    // An extra's bytes taken apart.
-    pub fn decode(b: &[u8]) -> Self
-        requires { length b.now ≡ slot_width }
-        ensures { result ≡ extra_of b.now }
-    {
+    ghost decoded = { extra_of };
+
+    ghost laws = { Prim.search (comparing, rules) };
+
+    fn decode(b: &[u8]) -> Self {
         Extra {
             kind: b[0],
             flags: b[1],
@@ -114,14 +110,14 @@ impl Extra {
             gso_type: b[4],
         }
     }
+}
 
-    // The extra at a counter.
-    pub fn at(page: &[u8], n: u32) -> Self
-        requires { length page.now ≡ page_size }
-        ensures { result ≡ extra_of (transmit_slot page.now n) }
-    {
-        Self::decode(ring::slot(page, Self::WIDTH, Self::COUNT, n))
-    }
+impl Extra {
+    // The type of an extra that carries gso fields.
+    pub const GSO: u8 = 1;
+
+    // The bit of the flags that announces another.
+    const ANOTHER: u32 = 0;
 
     // Whether it announces another.
     pub fn another_follows(self) -> bool
@@ -138,27 +134,23 @@ pub struct Request {
     pub gref: u32,
 }
 
-impl Request {
-    pub const WIDTH: usize = 8;
+impl RingSlot for Request {
+    ghost WIDTH = { 8 };
 
-    pub const COUNT: u32 = 256;
+    ghost COUNT = { 256 };
 
-    // A request's bytes taken apart.
-    pub fn decode(b: &[u8]) -> Self
-        requires { length b.now ≡ request_width }
-        ensures { result ≡ request_of b.now }
-    {
+    const WIDTH: usize = 8;
+
+    const COUNT: u32 = 256;
+
+    ghost decoded = { request_of };
+
+    ghost laws = { Prim.search (comparing, rules) };
+
+    fn decode(b: &[u8]) -> Self {
         Request {
             id: words::u16_at(b, 0),
             gref: words::u32_at(b, 4),
         }
-    }
-
-    // The request at a counter.
-    pub fn at(page: &[u8], n: u32) -> Self
-        requires { length page.now ≡ page_size }
-        ensures { result ≡ request_of (receive_slot page.now n) }
-    {
-        Self::decode(ring::slot(page, Self::WIDTH, Self::COUNT, n))
     }
 }

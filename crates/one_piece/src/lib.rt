@@ -2,19 +2,17 @@
 #![tactic(auto)]
 
 ghost use Rattle.std.specs.Prelude.{◌≡◌, ◌+◌, ◌*◌, ◌≤◌, [], ◌∷◌, length};
-ghost use Rattle.ring.specs.Ring.{page_size};
 ghost use Rattle.netif.specs.Slot.{receive_slots};
 ghost use Rattle.answer.specs.Effect.{Gives};
 ghost use Rattle.receive.specs.Put.{piece_size, deliver, settle};
 
-use answer::Outcome;
-use grant::Page;
+use answer::{Fault, Outcome};
 use netif::Request;
+use ring::Page;
 
 // Consumes one request that is fit: its page gets the frame, which is one piece.
-fn deliver_one(window: &mut [u8], ring: &mut [u8], old: u32, page: u32, frame: &[u8]) -> Outcome
-    requires { (length ring.old ≡ page_size)
-        × (length frame.now ≤ piece_size)
+fn deliver_one(window: &mut [u8], ring: &mut Page, old: u32, page: u32, frame: &[u8]) -> Outcome
+    requires { (length frame.now ≤ piece_size)
         × (4096 * page + 4096 ≤ length window.old) }
     ensures { Gives
         (deliver old ring.old window.old (receive_slots ring.old old 1) (page ∷ []) frame.now)
@@ -29,17 +27,25 @@ fn deliver_one(window: &mut [u8], ring: &mut [u8], old: u32, page: u32, frame: &
 pub fn settle_one(
     grants: &[u8],
     window: &mut [u8],
-    ring: &mut [u8],
+    ring: &mut Page,
     old: u32,
     frame: &[u8],
 ) -> Outcome
-    requires { (length ring.old ≡ page_size) × (length frame.now ≤ piece_size) }
+    requires { length frame.now ≤ piece_size }
     ensures { Gives
         (settle grants.now old ring.old window.old (receive_slots ring.old old 1) frame.now)
         result ring.new window.new }
 {
-    match delivering::page_of(grants, window, Request::at(ring, old)) {
-        Page::Unfit => delivering::refuse(ring, old, 1, delivering::UNFIT, 0),
-        Page::Fit(page) => deliver_one(window, ring, old, page, frame),
+    match delivering::page_of(grants, window, ring::read::<Request>(ring, old)) {
+        None => delivering::refuse(
+            ring,
+            old,
+            1,
+            Fault {
+                cause: delivering::UNFIT,
+                place: 0,
+            },
+        ),
+        Some(page) => deliver_one(window, ring, old, page, frame),
     }
 }

@@ -2,9 +2,7 @@
 -- A packet is given as its slots p and the number e of its extras, which stand behind the first slot.
 use Rattle.std.specs.Prelude.{List, [], ◌∷◌, ◌++◌, map, not, ◌||◌, ℕ, zero, suc, ◌-◌, ltb, eqb}
 use Rattle.grant.specs.Grant.{in_range, fit_transmit, window_part}
-use Rattle.answer.specs.declared.Verdict.{Verdict}
-use Rattle.answer.specs.declared.Verdict.TheVariants.{Good}
-use Rattle.answer.specs.Verdict.{◌or_else◌, test}
+use Rattle.answer.specs.Verdict.{Verdict, good, ◌or_else◌, test}
 use Rattle.netif.specs.Slot.{Slot, gref, offset, ident, size, null, transmit_reply}
 use Rattle.grammar.specs.Packet.{first_of, extras_of, later_of, sizes, gso_size_of, gso_type_of}
 
@@ -30,7 +28,7 @@ judge_sizes total later = test (ltb total 14) 1 0 or_else test (ltb total later)
 
 -- cause 6: of the gso fields, only if there are extras
 abbrev pub judge_gso : (extras size type : ℕ) → Verdict
-judge_gso zero n t = Good
+judge_gso zero n t = good
 judge_gso (suc e) n t = test (eqb n 0 || not (eqb t 1 || eqb t 2)) 6 (suc e)
 
 module _ (table window : List ℕ) where
@@ -39,7 +37,7 @@ module _ (table window : List ℕ) where
   judge_slot k s n = test (not (fit_transmit table window (gref s))) 4 k or_else test (not (in_range table (gref s) (offset s) n)) 5 k
 
   abbrev pub judge_later : ℕ → List Slot → Verdict
-  judge_later k [] = Good
+  judge_later k [] = good
   judge_later k (s ∷ l) = judge_slot k s (size s) or_else judge_later (suc k) l
 
   -- causes 4 and 5 of all data slots

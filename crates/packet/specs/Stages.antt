@@ -1,14 +1,12 @@
 -- What the functions that judge a packet and gather its frame promise each other. The plan of its parts, which judging makes and gathering
 -- carries out, is three tables: for each data slot its page, its offset there and the part's size.
-use Rattle.std.specs.Prelude.{◌≡◌, List, [], ◌∷◌, ◌++◌, map, ℕ, ◌+◌, ◌*◌, ◌≤◌, ◌<◌, suc, length, take, drop, get_or}
+use Rattle.std.specs.Prelude.{◌≡◌, List, [], ◌∷◌, ◌++◌, map, ℕ, ◌+◌, ◌*◌, ◌≤◌, ◌<◌, suc, length, take, drop, get_or, Result, Ok, Err}
 use Rattle.grant.specs.Grant.{page_of, page_part}
 use Rattle.netif.specs.Slot.{Slot, gref, size, offset, transmit_slots}
 use Rattle.grammar.specs.Packet.{first_of, later_of}
-use Rattle.answer.specs.declared.Verdict.{Verdict}
-use Rattle.answer.specs.declared.Verdict.TheVariants.{Good, Bad}
+use Rattle.answer.specs.declared.Fault.{Fault}
+use Rattle.answer.specs.Verdict.{Verdict, good}
 use Rattle.packet.specs.Judge.{judge_slot, parts, judge_later}
-use Rattle.packet.specs.declared.Part.{Part}
-use Rattle.packet.specs.declared.Part.TheVariants as part
 use Rattle.words.specs.Word.{splice}
 use Rattle.grammar.specs.Stages.{outline_of}
 use Rattle.grammar.specs.declared.Outline.{Outline}
@@ -34,11 +32,11 @@ unfoldable pub slot_page : List ℕ → Slot → ℕ
 slot_page table s = page_of table (gref s)
 
 -- where a data slot's part of n bytes lies, the slot standing at place k of the packet: the page that it names, or its cause for 7
-abbrev pub part_by : Verdict → ℕ → Part
-part_by Good page = part.At page
-part_by (Bad cause place) page = part.Bad cause place
+abbrev pub part_by : Verdict → ℕ → Result ℕ Fault
+part_by (Ok u) page = Ok page
+part_by (Err f) page = Err f
 
-unfoldable pub slot_part : (table window : List ℕ) (k : ℕ) (s : Slot) (n : ℕ) → Part
+unfoldable pub slot_part : (table window : List ℕ) (k : ℕ) (s : Slot) (n : ℕ) → Result ℕ Fault
 slot_part table window k s n = part_by (judge_slot table window k s n) (slot_page table s)
 
 -- the table holds the later slots' sizes, from the place 1 on
@@ -64,8 +62,8 @@ later_at page c extras later = transmit_slots page (c + (extras + 1)) later
 -- may hold anything
 pub record LaterJudged (table window page : List ℕ) (c extras later : ℕ) (pages₀ offsets₀ pages offsets : List ℕ) (r : Verdict) : Type 0 where
   pub verdict : r ≡ judge_later table window (suc extras) (later_at page c extras later)
-  pub pages_are : r ≡ Good → pages ≡ splice pages₀ 1 (map (slot_page table) (later_at page c extras later))
-  pub offsets_are : r ≡ Good → offsets ≡ splice offsets₀ 1 (map offset (later_at page c extras later))
+  pub pages_are : r ≡ good → pages ≡ splice pages₀ 1 (map (slot_page table) (later_at page c extras later))
+  pub offsets_are : r ≡ good → offsets ≡ splice offsets₀ 1 (map offset (later_at page c extras later))
 
 -- the table holds the packet's parts
 unfoldable pub HoldsParts : (sizes : List ℕ) (e : ℕ) (p : List Slot) → Type 0
@@ -75,6 +73,6 @@ HoldsParts sizes e p = take (length (datas_of e p)) sizes ≡ parts e p
 -- they may hold anything
 pub record Judged (table : List ℕ) (e : ℕ) (p : List Slot) (v : Verdict) (pages offsets sizes : List ℕ) (r : Verdict) : Type 0 where
   pub verdict : r ≡ v
-  pub pages_are : r ≡ Good → take (length (datas_of e p)) pages ≡ map (slot_page table) (datas_of e p)
-  pub offsets_are : r ≡ Good → take (length (datas_of e p)) offsets ≡ map offset (datas_of e p)
-  pub parts_are : r ≡ Good → HoldsParts sizes e p
+  pub pages_are : r ≡ good → take (length (datas_of e p)) pages ≡ map (slot_page table) (datas_of e p)
+  pub offsets_are : r ≡ good → take (length (datas_of e p)) offsets ≡ map offset (datas_of e p)
+  pub parts_are : r ≡ good → HoldsParts sizes e p

@@ -3,13 +3,14 @@
 
 ghost use Rattle.std.specs.Prelude.{◌≡◌, ◌+◌, ◌*◌, ◌≤◌, length, take};
 ghost use Rattle.words.specs.Word.{splice};
-ghost use Rattle.ring.specs.Ring.{page_size, slot_place, with_slots};
+ghost use Rattle.ring.specs.Ring.{slot_place, with_slots};
 ghost use Rattle.netif.specs.Slot.{request_width, request_count, request_ident, receive_reply, receive_slot, receive_slots};
 ghost use Rattle.receive.specs.Put.{piece_size, reply_flags, scatter, piece_replies, error_replies};
 ghost use Rattle.receive.specs.Stages.{AllUsable};
 
 use lengths::PIECE;
 use netif::Request;
+use ring::Page;
 
 // The pieces of the longest frame.
 pub const MOST: usize = 16;
@@ -24,8 +25,7 @@ const ERROR: u16 = 65535;
 // Writes the pieces of a frame to the pages of the table, in order. All but the last are whole pages: of these the compiler knows the
 // length.
 pub fn scatter(window: &mut [u8], pages: &[u32; MOST], count: usize, frame: &[u8])
-    requires { (length pages.now ≡ 16)
-        × (count ≤ 16)
+    requires { (count ≤ 16)
         × (piece_size * count ≤ length frame.now + 4095)
         × (length frame.now ≤ piece_size * count)
         × AllUsable (length window.old) (take count pages.now) }
@@ -53,20 +53,19 @@ fn reply_flags(more: bool) -> u16
 }
 
 // Replies to the request at slot n: its own id, offset 0, flags and status.
-pub fn reply(ring: &mut [u8], n: u32, flags: u16, status: u16)
-    requires { length ring.old ≡ page_size }
+pub fn reply(ring: &mut Page, n: u32, flags: u16, status: u16)
     ensures { ring.new ≡ splice ring.old (slot_place request_width request_count n)
         (receive_reply (request_ident (receive_slot ring.old n)) 0 flags status) }
 {
-    let at = ring::place(Request::WIDTH, Request::COUNT, n);
+    let at = ring::place::<Request>(n);
     let id = words::u16_at(ring, at);
-    ring::reply(ring, Request::WIDTH, Request::COUNT, n, id, 0);
+    ring::reply::<Request>(ring, n, id, 0);
     words::put_pair(ring, at + FLAGS, flags, status);
 }
 
 // Replies to the requests that got the pieces of a frame.
-pub fn reply_pieces(ring: &mut [u8], first: u32, count: u32, frame: &[u8])
-    requires { (length ring.old ≡ page_size) × (count ≤ 16) × (piece_size * count ≤ length frame.now + 4095) }
+pub fn reply_pieces(ring: &mut Page, first: u32, count: u32, frame: &[u8])
+    requires { (count ≤ 16) × (piece_size * count ≤ length frame.now + 4095) }
     ensures { ring.new ≡ with_slots request_width request_count ring.old first
         (piece_replies (receive_slots ring.old first count) frame.now) }
 {
@@ -84,8 +83,8 @@ pub fn reply_pieces(ring: &mut [u8], first: u32, count: u32, frame: &[u8])
 }
 
 // Replies to requests of which one is unfit.
-pub fn reply_errors(ring: &mut [u8], first: u32, count: u32)
-    requires { (length ring.old ≡ page_size) × (count ≤ 16) }
+pub fn reply_errors(ring: &mut Page, first: u32, count: u32)
+    requires { count ≤ 16 }
     ensures { ring.new ≡ with_slots request_width request_count ring.old first
         (error_replies (receive_slots ring.old first count)) }
 {

@@ -7,16 +7,16 @@ ghost use Rattle.answer.specs.Words.{report_words};
 ghost use Rattle.frontend.specs.Post.{report_of};
 ghost use Rattle.interface.specs.Interface.{gso_of};
 
-use frontend::{Answer, Gso};
+use frontend::{Gso, Posted, Refusal};
 
 // The gso that three words say: none where the first is 0.
-pub fn gso_of(given: u32, size: u16, kind: u8) -> Gso
+pub fn gso_of(given: u32, size: u16, kind: u8) -> Option<Gso>
     ensures { result ≡ gso_of given size kind }
 {
     if given == 0 {
-        return Gso::Absent;
+        return None;
     }
-    Gso::Given { size, kind }
+    Some(Gso { size, kind })
 }
 
 // The report of a frame that is posted.
@@ -29,15 +29,15 @@ fn write_posted(report: &mut [u32; 11], slots: u32, notify: bool) -> u32
 }
 
 // All eleven words of a report of a post; the answer's number.
-pub fn write_post(report: &mut [u32; 11], answer: Answer) -> u32
+pub fn write_post(report: &mut [u32; 11], answer: Result<Posted, Refusal>) -> u32
     ensures { (result ≡ (report_of answer).answer) × (report.new ≡ report_words (report_of answer)) }
 {
     match answer {
-        Answer::Posted { slots, notify } => write_posted(report, slots, notify),
-        Answer::BadPage => reporting::write_number(report, 1),
-        Answer::BadLength => reporting::write_number(report, 9),
-        Answer::NoSlots => reporting::write_number(report, 11),
-        Answer::BadPages => reporting::write_number(report, 12),
-        Answer::BadGso => reporting::write_number(report, 13),
+        Ok(posted) => write_posted(report, posted.slots, posted.notify),
+        Err(Refusal::BadPage) => reporting::write_number(report, 1),
+        Err(Refusal::BadLength) => reporting::write_number(report, 9),
+        Err(Refusal::NoSlots) => reporting::write_number(report, 11),
+        Err(Refusal::BadPages) => reporting::write_number(report, 12),
+        Err(Refusal::BadGso) => reporting::write_number(report, 13),
     }
 }

@@ -2,18 +2,17 @@
 #![tactic(auto)]
 
 ghost use Rattle.std.specs.Prelude.{◌≡◌, ◌+◌, ◌*◌, ◌≤◌, length, take, drop};
-ghost use Rattle.ring.specs.Ring.{page_size, with_slots};
+ghost use Rattle.ring.specs.Ring.{with_slots};
 ghost use Rattle.netif.specs.Slot.{slot_width, slot_count};
 ghost use Rattle.frontend.specs.Post.{gso_extras, later_for, extras_for, free_slots};
 ghost use Rattle.frontend.specs.Stages.{WithPacket};
 
 use frontend::Gso;
 use netif::DataSlot;
-use ring::Side;
+use ring::{Page, RingSlot, Side};
 
 // The slots that are free, by the driver's count of replies read.
-pub fn free(ring: &[u8], read: u32) -> u32
-    requires { length ring.now ≡ page_size }
+pub fn free(ring: &Page, read: u32) -> u32
     ensures { result ≡ free_slots ring.now read }
 {
     let used = ring::posted(ring, read);
@@ -25,9 +24,8 @@ pub fn free(ring: &[u8], read: u32) -> u32
 }
 
 // Writes the data slots behind the first, from a counter on: one for each further piece of the frame.
-fn put_later(ring: &mut [u8], first: u32, references: &[u32], count: u32, frame: &[u8])
-    requires { (length ring.old ≡ page_size)
-        × (1 ≤ count)
+fn put_later(ring: &mut Page, first: u32, references: &[u32], count: u32, frame: &[u8])
+    requires { (1 ≤ count)
         × (count ≤ 16)
         × (count ≤ length references.now)
         × (4096 * count ≤ length frame.now + 4095) }
@@ -49,20 +47,17 @@ fn put_later(ring: &mut [u8], first: u32, references: &[u32], count: u32, frame:
 }
 
 // Writes the extra that gso needs, if any, at a counter.
-fn put_extras(ring: &mut [u8], n: u32, gso: Gso)
-    requires { length ring.old ≡ page_size }
+fn put_extras(ring: &mut Page, n: u32, gso: Option<Gso>)
     ensures { ring.new ≡ with_slots slot_width slot_count ring.old n (extras_for gso) }
 {
-    match gso {
-        Gso::Absent => {}
-        Gso::Given { size, kind } => encoding::put_extra(ring, n, size, kind),
+    if let Some(gso) = gso {
+        encoding::put_extra(ring, n, gso.size, gso.kind);
     }
 }
 
 // Writes the packet at req_prod and moves req_prod behind it; whether to notify the backend.
-pub fn put_packet(ring: &mut [u8], gso: Gso, references: &[u32], count: u32, frame: &[u8]) -> bool
-    requires { (length ring.old ≡ page_size)
-        × (1 ≤ count)
+pub fn put_packet(ring: &mut Page, gso: Option<Gso>, references: &[u32], count: u32, frame: &[u8]) -> bool
+    requires { (1 ≤ count)
         × (count ≤ 16)
         × (count ≤ length references.now)
         × (length frame.now ≤ 65535)
@@ -85,11 +80,8 @@ pub fn put_packet(ring: &mut [u8], gso: Gso, references: &[u32], count: u32, fra
 }
 
 // The extras that gso needs.
-pub fn extras_of(gso: Gso) -> u32
+pub fn extras_of(gso: Option<Gso>) -> u32
     ensures { result ≡ gso_extras gso }
 {
-    match gso {
-        Gso::Absent => 0,
-        Gso::Given { size, kind } => 1,
-    }
+    u32::from(gso.is_some())
 }

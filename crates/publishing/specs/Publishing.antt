@@ -1,5 +1,5 @@
 -- Posting is a publication as demand 3's sequences have it.
-use Rattle.std.specs.Prelude.{◌≡◌, List, ℕ, ◌<◌, length}
+use Rattle.std.specs.Prelude.{◌≡◌, List, ℕ, ◌<◌, length, Option}
 use Rattle.words.specs.Word.{Bytes}
 use Rattle.ring.specs.Ring.{req_prod}
 use Rattle.netif.specs.Slot.{Slot, transmit_slots}
@@ -22,7 +22,7 @@ pub record Publishes (s : State) (page : List ℕ) (p : List Slot) : Type 0 wher
 unfoldable pub PostPublishes : Type 0
 PostPublishes =
     (table window : List ℕ) (c : ℕ) (s : State) (takes : List Take) → Sequence table window c s takes
-    → (table' window' : List ℕ) (read : ℕ) (o : Gso) (refs frame : List ℕ) → Bytes s.page → type_given o < 256
+    → (table' window' : List ℕ) (read : ℕ) (o : Option Gso) (refs frame : List ℕ) → Bytes s.page → type_given o < 256
     → NotPast s.page read s.replied
     → (post table' s.page window' read o refs frame).report.answer ≡ 0
     → Publishes s (post table' s.page window' read o refs frame).page (packet_of s.page o refs frame)

@@ -2,23 +2,23 @@
 #![tactic(auto)]
 
 ghost use Rattle.std.specs.Prelude.{◌≡◌, false, ◌-◌, length};
-ghost use Rattle.ring.specs.Ring.{page_size};
 ghost use Rattle.answer.specs.Report.{go_on};
 ghost use Rattle.answer.specs.Effect.{Gives};
 ghost use Rattle.receive.specs.Put.{bad_length, needed, settle, receive_put};
 
 use answer::{Answer, Outcome, Queue};
 use netif::Request;
+use ring::{Page, RingSlot};
 
 // Puts a frame of a good length into the pages of the requests at the counter of a queue that is not halted.
 fn put_running(
     first: u32,
     grants: &[u8],
     window: &mut [u8],
-    ring: &mut [u8],
+    ring: &mut Page,
     frame: &[u8],
 ) -> Outcome
-    requires { (length ring.old ≡ page_size) × (bad_length (length frame.now) ≡ false) }
+    requires { (bad_length (length frame.now) ≡ false) }
     ensures { Gives
         (receive_put grants.now (go_on first) ring.old window.old frame.now) result
         ring.new window.new }
@@ -43,9 +43,9 @@ pub fn put(queue: Queue, grants: &[u8], window: &mut [u8], ring: &mut [u8], fram
         (receive_put grants.now queue ring.old window.old frame.now) result
         ring.new window.new }
 {
-    if !ring::is_page(ring) {
+    let Some(ring) = ring.as_mut_array::<{ ring::PAGE_SIZE }>() else {
         return answer::keep(Answer::BadPage, queue);
-    }
+    };
     if lengths::bad_length(frame.len()) {
         return answer::keep(Answer::BadLength, queue);
     }

@@ -1,14 +1,12 @@
 -- Document 01, "Receive": one receive call, in the order of its answers.
-use Rattle.std.specs.Prelude.{List, [], ◌∷◌, map, Bool, not, cond, ◌||◌, ℕ, suc, ◌+◌, ◌/◌, length, take, drop, ltb, eqb}
+use Rattle.std.specs.Prelude.{List, [], ◌∷◌, map, Bool, not, cond, ◌||◌, ℕ, suc, ◌+◌, ◌/◌, length, take, drop, ltb, eqb, Ok, Err}
 use Rattle.ring.specs.Ring.{page_size, posted, with_slots}
 use Rattle.grant.specs.Grant.{fit_receive, page_of, with_page}
 use Rattle.netif.specs.Slot.{Slot, request_width, request_count, error, request_ident, request_gref, receive_reply, receive_slots}
 use Rattle.answer.specs.Report.{spoiled_report, done_report, plain_summary}
 use Rattle.answer.specs.Effect.{Effect, refusal, consume}
-use Rattle.answer.specs.Verdict.{test, ◌or_else◌}
+use Rattle.answer.specs.Verdict.{Verdict, good, test, ◌or_else◌}
 use Rattle.answer.specs.declared.Queue.{Queue}
-use Rattle.answer.specs.declared.Verdict.{Verdict}
-use Rattle.answer.specs.declared.Verdict.TheVariants.{Good, Bad}
 
 -- a frame is 14 to 65,535 bytes long
 unfoldable pub bad_length : ℕ → Bool
@@ -32,7 +30,7 @@ module _ (table : List ℕ) where
 
   -- each request's grant, from place k on: the first unfit one is cause 4, with its place
   abbrev pub judge : List ℕ → ℕ → List Slot → Verdict
-  judge window k [] = Good
+  judge window k [] = good
   judge window k (s ∷ l) = test (not (fit_receive table window (request_gref s))) 4 k or_else judge window (suc k) l
 
 -- the frame's pieces at offset 0 of the pages, in order
@@ -72,8 +70,8 @@ deliver old page window requests pages frame =
 module _ (table : List ℕ) where
   -- requests are consumed, by what is found of them
   abbrev pub settle_by : (old : ℕ) (page window : List ℕ) (requests : List Slot) (frame : List ℕ) → Verdict → Effect
-  settle_by old page window requests frame (Bad cause place) = refuse old page window requests cause place
-  settle_by old page window requests frame Good = deliver old page window requests (pages_named table requests) frame
+  settle_by old page window requests frame (Err f) = refuse old page window requests f.cause f.place
+  settle_by old page window requests frame (Ok u) = deliver old page window requests (pages_named table requests) frame
 
   -- all are tested before anything is written
   abbrev pub settle : (old : ℕ) (page window : List ℕ) (requests : List Slot) (frame : List ℕ) → Effect

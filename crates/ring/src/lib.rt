@@ -2,11 +2,14 @@
 // width of a slot in bytes and the number of slots, so that one function and one law serve every ring.
 #![tactic(auto)]
 
-ghost use Rattle.std.specs.Prelude.{◌≡◌, ◌+◌, ◌*◌, ◌<◌, ◌≤◌, ◌++◌, length, ◌==◌};
+ghost use Rattle.std.specs.Prelude.{◌≡◌, ◌+◌, ◌*◌, ◌<◌, ◌≤◌, ◌++◌, length, ℕ, List};
 ghost use Rattle.words.specs.Word.{u16_bytes, splice};
 ghost use Rattle.ring.specs.Ring.{page_size, req_prod, producer_at, wadd, posted, asking, notify, ProducerMoved, slot_place, slot_at};
 
-const PAGE_SIZE: usize = 4096;
+pub const PAGE_SIZE: usize = 4096;
+
+// A ring page's bytes.
+pub type Page = [u8; PAGE_SIZE];
 
 const REQ_PROD: usize = 0;
 
@@ -26,24 +29,38 @@ pub enum Side {
     Replies,
 }
 
-// Whether a ring page has its size.
-pub fn is_page(page: &[u8]) -> bool
-    ensures { result ≡ (length page.now == page_size) }
-{
-    page.len() == PAGE_SIZE
+// A kind of slot: the layout of its ring, and what a slot's bytes say.
+pub trait RingSlot: Sized {
+    // The width of a slot in bytes, and the number of slots.
+    ghost WIDTH: { ℕ };
+
+    ghost COUNT: { ℕ };
+
+    const WIDTH: usize;
+
+    const COUNT: u32;
+
+    // What a slot's bytes say.
+    ghost decoded: { List ℕ → Self };
+
+    // There is a slot, a reply's two numbers fit in it, and all slots fit in a page.
+    ghost laws: { (0 < COUNT) × (4 ≤ WIDTH) × (64 + WIDTH * COUNT ≤ page_size) };
+
+    // A slot's bytes taken apart.
+    fn decode(b: &[u8]) -> Self
+        requires { length b.now ≡ WIDTH }
+        ensures { result ≡ decoded b.now };
 }
 
 // The slots that the guest has ever posted: req_prod.
-pub fn requests(page: &[u8]) -> u32
-    requires { length page.now ≡ page_size }
+pub fn requests(page: &Page) -> u32
     ensures { result ≡ req_prod page.now }
 {
     words::u32_at(page, REQ_PROD)
 }
 
 // The slots posted and not yet consumed, across the counter's wrap.
-pub fn posted(page: &[u8], consumed: u32) -> u32
-    requires { length page.now ≡ page_size }
+pub fn posted(page: &Page, consumed: u32) -> u32
     ensures { result ≡ posted page.now consumed }
 {
     std::num::wrapping_sub_u32(requests(page), consumed)
@@ -57,34 +74,37 @@ pub fn ahead(n: u32, k: u32) -> u32
 }
 
 // Where slot n stands.
-pub fn place(width: usize, count: u32, n: u32) -> usize
-    requires { (0 < count) × (64 + width * count ≤ page_size) }
-    ensures { result ≡ slot_place width count n }
+pub fn place<S: RingSlot>(n: u32) -> usize
+    ensures { result ≡ slot_place S.WIDTH S.COUNT n }
 {
-    SLOTS + width * ((n % count) as usize)
+    SLOTS + S::WIDTH * ((n % S::COUNT) as usize)
 }
 
 // Slot n: a part of the page, not a copy.
-pub fn slot(page: &[u8], width: usize, count: u32, n: u32) -> &[u8]
-    requires { (length page.now ≡ page_size) × (0 < count) × (64 + width * count ≤ page_size) }
-    ensures { result.now ≡ slot_at width count page.now n }
+pub fn slot<S: RingSlot>(page: &Page, n: u32) -> &[u8]
+    ensures { result.now ≡ slot_at S.WIDTH S.COUNT page.now n }
 {
-    let a = place(width, count, n);
-    let b = a + width;
+    let a = place::<S>(n);
+    let b = a + S::WIDTH;
     &page[a..b]
 }
 
-// Stores the two numbers that a reply starts with over the first four bytes of slot n.
-pub fn reply(page: &mut [u8], width: usize, count: u32, n: u32, x: u16, y: u16)
-    requires { (length page.old ≡ page_size) × (0 < count) × (4 ≤ width) × (64 + width * count ≤ page_size) }
-    ensures { page.new ≡ splice page.old (slot_place width count n) (u16_bytes x ++ u16_bytes y) }
+// Slot n taken apart.
+pub fn read<S: RingSlot>(page: &Page, n: u32) -> S
+    ensures { result ≡ S.decoded (slot_at S.WIDTH S.COUNT page.now n) }
 {
-    words::put_pair(page, place(width, count, n), x, y);
+    S::decode(slot::<S>(page, n))
+}
+
+// Stores the two numbers that a reply starts with over the first four bytes of slot n.
+pub fn reply<S: RingSlot>(page: &mut Page, n: u32, x: u16, y: u16)
+    ensures { page.new ≡ splice page.old (slot_place S.WIDTH S.COUNT n) (u16_bytes x ++ u16_bytes y) }
+{
+    words::put_pair(page, place::<S>(n), x, y);
 }
 
 // Asks for an event at the next request: req_event becomes req_prod and one.
-pub fn ask_event(page: &mut [u8])
-    requires { length page.old ≡ page_size }
+pub fn ask_event(page: &mut Page)
     ensures { page.new ≡ asking page.old }
 {
     let next = std::num::wrapping_add_u32(requests(page), 1);
@@ -102,8 +122,7 @@ fn producer(side: Side) -> usize
 }
 
 // Whether the other side asked for an event between two counters of a side.
-fn notify(page: &[u8], side: Side, old: u32, new: u32) -> bool
-    requires { length page.now ≡ page_size }
+fn notify(page: &Page, side: Side, old: u32, new: u32) -> bool
     ensures { result ≡ notify side page.now old new }
 {
     let event = words::u32_at(page, producer(side) + EVENT);
@@ -111,8 +130,7 @@ fn notify(page: &[u8], side: Side, old: u32, new: u32) -> bool
 }
 
 // Moves a side's counter behind what it has written, and tells whether to notify the other side.
-pub fn publish(page: &mut [u8], side: Side, old: u32, new: u32) -> bool
-    requires { length page.old ≡ page_size }
+pub fn publish(page: &mut Page, side: Side, old: u32, new: u32) -> bool
     ensures { ProducerMoved side page.old old new page.new result }
 {
     words::put_u32(page, producer(side), new);

@@ -4,8 +4,7 @@
 ghost use Rattle.std.specs.Prelude.{◌≡◌, ◌≤◌, length};
 ghost use Rattle.frontend.specs.Stages.{Searched, PagesTested};
 
-use frontend::Search;
-use grant::Page;
+use frontend::Unusable;
 
 // The search over count references: each must be fit for receive and name another page than those before it. It ends at the first
 // pair that names one page. The table gets the pages, so that each reference is looked up once.
@@ -15,20 +14,20 @@ pub fn search_pages(
     references: &[u32],
     count: u32,
     pages: &mut [u32; pieces::MOST],
-) -> Search
-    requires { (length pages.old ≡ 16) × (count ≤ 16) × (count ≤ length references.now) }
+) -> Result<(), Unusable>
+    requires { (count ≤ 16) × (count ≤ length references.now) }
     ensures { Searched grants.now window.now references.now count pages.new result }
 {
-    let mut found = Search::Apart;
+    let mut found = Ok(());
     let mut i: u32 = 0;
     'search: while i < count {
-        let Page::Fit(page) = grant::fit_to_write(grants, window, references[i as usize]) else {
-            return Search::Unfit;
+        let Some(page) = grant::fit_to_write(grants, window, references[i as usize]) else {
+            return Err(Unusable::Unfit);
         };
         let mut j: u32 = 0;
         while j < i {
             if pages[j as usize] == page {
-                found = Search::Same(j, i);
+                found = Err(Unusable::Same(j, i));
                 break 'search;
             }
             j += 1;
@@ -47,16 +46,11 @@ pub fn bad_pages(
     count: u32,
     pages: &mut [u32; pieces::MOST],
 ) -> bool
-    requires { (length pages.old ≡ 16) × (count ≤ 16) }
-    ensures { (length pages.new ≡ 16)
-        × PagesTested grants.now window.now references.now count pages.new result }
+    requires { count ≤ 16 }
+    ensures { PagesTested grants.now window.now references.now count pages.new result }
 {
     if references.len() < count as usize {
         return true;
     }
-    match search_pages(grants, window, references, count, pages) {
-        Search::Apart => false,
-        Search::Unfit => true,
-        Search::Same(i, j) => true,
-    }
+    search_pages(grants, window, references, count, pages).is_err()
 }

@@ -6,7 +6,7 @@ use Rattle.ring.specs.Ring.{wrap, wadd, wsub, page_size, req_prod, rsp_prod, pos
 use Rattle.netif.specs.Slot.{Slot, slot_count, transmit_slot, transmit_slots}
 use Rattle.grammar.specs.Grammar.{Packet, AtFront}
 use Rattle.grammar.specs.Service.{◌▹◌, Serves}
-use Rattle.answer.specs.declared.Verdict.TheVariants.{Good, Bad}
+use Rattle.answer.specs.Verdict.{good, bad}
 use Rattle.packet.specs.Judge.{judge}
 use Rattle.held.specs.declared.Held.{Held}
 use Rattle.held.specs.Records.{full, all_free}
@@ -134,7 +134,7 @@ module _ (table window : List ℕ) where
 
   -- a take at counter c took the packet p: handed it over, exactly if no cause for 7 holds of it, or answered 7, with all that is fixed for p
   pub data Took (c : ℕ) (a : Take) (p : List Slot) : Type 0 where
-    handed : (k : Packet p) → lent_queue a ≡ go_on c a.replied → judge table window (length k.extras) p ≡ Good
+    handed : (k : Packet p) → lent_queue a ≡ go_on c a.replied → judge table window (length k.extras) p ≡ good
         → LeftAs a (handed_over table window (go_on c a.replied) a.page a.frame a.list (length k.extras) p) → Took c a p
     spoilt : (k : Packet p) (cause place : ℕ) → lent_queue a ≡ go_on c a.replied → judge table window (length k.extras) p ≡ Bad cause place
         → LeftAs a (spoiled (go_on c a.replied) a.page a.frame a.list (length k.extras) p cause place) → Took c a p

@@ -2,9 +2,7 @@
 #![tactic(auto)]
 
 ghost use Rattle.std.specs.Prelude.{◌≡◌, List, Bool, ℕ, ◌≤◌, ◌<◌, length};
-ghost use Rattle.ring.specs.Ring.{page_size};
 ghost use Rattle.netif.specs.Slot.{Slot};
-ghost use Rattle.answer.specs.declared.Verdict.TheVariants.{Bad};
 ghost use Rattle.grammar.specs.Packet.{later_of};
 ghost use Rattle.grammar.specs.Stages.{outline_of};
 ghost use Rattle.packet.specs.Stages.{SizesOf, packet_at, Ready};
@@ -13,16 +11,16 @@ ghost use Rattle.transmit.specs.declared.Answer.TheVariants.{Done};
 ghost use Rattle.transmit.specs.Take.{go_on, summary_of, take_packet};
 ghost use Rattle.transmit.specs.Stages.{Lent, Gives, RepliedNow, take_whole};
 
-use answer::{Summary, Verdict};
+use answer::{Fault, Summary};
 use grammar::Outline;
-use ring::Side;
+use ring::{Page, Side};
 use transmit::Answer;
 
 const ERROR: u16 = 65535;
 
 // The replies to a spoiled packet leave at once, and rsp_prod goes behind them, if no packet is held before it. Whether to notify.
-fn reply_now(first: u32, replied: u32, slots: u32, extras: u32, ring: &mut [u8]) -> bool
-    requires { (length ring.old ≡ page_size) × (slots ≤ 256) × (extras < slots) }
+fn reply_now(first: u32, replied: u32, slots: u32, extras: u32, ring: &mut Page) -> bool
+    requires { (slots ≤ 256) × (extras < slots) }
     ensures { RepliedNow ring.old first replied slots extras ring.new result }
 {
     if first == replied {
@@ -39,13 +37,12 @@ pub fn refuse(
     replied: u32,
     full: bool,
     o: Outline,
-    cause: u8,
-    place: u32,
-    ring: &mut [u8],
+    fault: Fault,
+    ring: &mut Page,
 ) -> Answer
-    requires { (length ring.old ≡ page_size) × Ready ring.old first o }
+    requires { Ready ring.old first o }
     ensures { (table window frame : List ℕ) (l : List Held) → Lent first replied full l → Gives
-        (take_packet table window (go_on first replied) ring.old frame l o.extras (packet_at ring.old first o) (Bad cause place))
+        (take_packet table window (go_on first replied) ring.old frame l o.extras (packet_at ring.old first o) (Err fault))
         (go_on first replied) l result ring.new frame }
 {
     if full {
@@ -53,8 +50,8 @@ pub fn refuse(
     }
     let notify = reply_now(first, replied, o.slots, o.extras, ring);
     Answer::Spoiled {
-        cause,
-        place,
+        cause: fault.cause,
+        place: fault.place,
         slots: o.slots,
         extras: o.extras,
         notify,
@@ -98,13 +95,11 @@ pub fn settle(
     sizes: &mut [u16; 18],
     grants: &[u8],
     window: &[u8],
-    ring: &mut [u8],
+    ring: &mut Page,
     frame: &mut [u8],
 ) -> Answer
-    requires { (length ring.old ≡ page_size)
-        × Ready ring.old first o
-        × SizesOf sizes.old (later_of o.extras (packet_at ring.old first o))
-        × (length sizes.old ≡ 18) }
+    requires { Ready ring.old first o
+        × SizesOf sizes.old (later_of o.extras (packet_at ring.old first o)) }
     ensures { (l : List Held) → Lent first replied full l → Gives
         (take_whole grants.now window.now (go_on first replied) ring.old frame.old l o.extras (packet_at ring.old first o))
         (go_on first replied) l result ring.new frame.new }
@@ -112,7 +107,7 @@ pub fn settle(
     let mut pages = [0u32; 18];
     let mut offsets = [0u16; 18];
     let head = o.head;
-    match judging::judge(
+    let judged = judging::judge(
         ring,
         first,
         o,
@@ -121,18 +116,17 @@ pub fn settle(
         &mut offsets,
         grants,
         window,
-    ) {
-        Verdict::Bad { cause, place } => refuse(first, replied, full, o, cause, place, ring),
-        Verdict::Good => {
-            if frame.len() < head.size as usize {
-                return Answer::NoRoom;
-            }
-            if full {
-                return Answer::NoRecord;
-            }
-            let count = (o.slots - o.extras) as usize;
-            gathering::gather(window, count, &pages, &offsets, sizes, frame);
-            accept(o)
-        }
+    );
+    if let Err(fault) = judged {
+        return refuse(first, replied, full, o, fault, ring);
     }
+    if frame.len() < head.size as usize {
+        return Answer::NoRoom;
+    }
+    if full {
+        return Answer::NoRecord;
+    }
+    let count = (o.slots - o.extras) as usize;
+    gathering::gather(window, count, &pages, &offsets, sizes, frame);
+    accept(o)
 }

@@ -8,7 +8,7 @@ use Rattle.netif.specs.declared.DataSlot.{DataSlot}
 use Rattle.grammar.specs.declared.Outline.{Outline}
 use Rattle.grammar.specs.Divide.{alone}
 use Rattle.answer.specs.Report.{Report, plain, spoiled_report, taken_report}
-use Rattle.answer.specs.declared.Verdict.TheVariants.{Good}
+use Rattle.answer.specs.Verdict.{good}
 use Rattle.packet.specs.Judge.{total_of, judge, frame_of}
 use Rattle.held.specs.declared.Held.{Held}
 use Rattle.held.specs.Records.{free, full, added, waiting, ended, failed}
@@ -145,6 +145,6 @@ pub record ComesToOne (q : Queue) (isSound isFull : Bool) (page : List ℕ) : Ty
 -- the slot at counter c as a packet of one was handed over, if it is good and the frame buffer has room; else the frame buffer is as it was
 pub record HandedOne (table window page : List ℕ) (c : ℕ) (frame : List ℕ) (handed : Bool) (written : List ℕ) : Type 0 where
   pub not : handed ≡ false → written ≡ frame
-  pub good : handed ≡ true → judge table window 0 (packet_one page c) ≡ Good
+  pub good : handed ≡ true → judge table window 0 (packet_one page c) ≡ good
   pub fits : handed ≡ true → total_of (packet_one page c) ≤ length frame
   pub copied : handed ≡ true → written ≡ splice frame 0 (frame_of table window 0 (packet_one page c))

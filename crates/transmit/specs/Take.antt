@@ -1,5 +1,5 @@
 -- One take, in the order of document 01's answers. A good packet is handed over and held in a record; its replies wait until it is finished.
-use Rattle.std.specs.Prelude.{List, [], ◌∷◌, Bool, true, false, not, cond, ◌||◌, ℕ, ◌+◌, length, take, ltb, eqb}
+use Rattle.std.specs.Prelude.{List, [], ◌∷◌, Bool, true, false, not, cond, ◌||◌, ℕ, ◌+◌, length, take, ltb, eqb, Ok, Err}
 use Rattle.words.specs.Word.{splice}
 use Rattle.ring.specs.Ring.{page_size, req_prod, posted, asking, notify, wadd, wsub, with_slots, with_producer}
 use Rattle.ring.specs.declared.Side.TheVariants.{Replies}
@@ -9,8 +9,7 @@ use Rattle.grammar.specs.Divide.{divide, on_cut}
 use Rattle.answer.specs.Report.{Report, halts, asks, plain, spoiled_report, taken_report}
 use Rattle.answer.specs.declared.Summary.{Summary}
 use Rattle.packet.specs.Judge.{total_of, judge, frame_of, replies_of}
-use Rattle.answer.specs.declared.Verdict.{Verdict}
-use Rattle.answer.specs.declared.Verdict.TheVariants.{Good, Bad}
+use Rattle.answer.specs.Verdict.{Verdict}
 use Rattle.held.specs.declared.Held.{Held}
 use Rattle.held.specs.Records.{full, added, waiting, ended, failed}
 use Rattle.held.specs.Valid.{between, valid}
@@ -99,10 +98,10 @@ module _ (table window : List ℕ) where
 
   -- 14 if all records are in use: after 8 for a good packet, in place of 7 for a spoiled one
   abbrev pub take_packet : Queue → (page frame : List ℕ) → List Held → (e : ℕ) → List Slot → Verdict → TakeEffect
-  take_packet q page frame l e p (Bad cause place) =
+  take_packet q page frame l e p (Err f) =
       cond (full l) (refusal 14 q page frame l)
-      (spoiled q page frame l e p cause place)
-  take_packet q page frame l e p Good =
+      (spoiled q page frame l e p f.cause f.place)
+  take_packet q page frame l e p (Ok u) =
       cond (ltb (length frame) (total_of p)) (refusal 8 q page frame l)
       (cond (full l) (refusal 14 q page frame l)
       (handed_over q page frame l e p))
