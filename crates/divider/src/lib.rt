@@ -14,7 +14,7 @@ use netif::DataSlot;
 pub fn is_alone(page: &[u8; 4096], first: u32) -> bool
     ensures { result ≡ alone (transmit_slot page.now first) }
 {
-    let slot = DataSlot::at(page, first);
+    let slot = ring::read::<DataSlot>(page, first);
     !slot.more_data() && !slot.extra_follows()
 }
 
@@ -32,7 +32,7 @@ fn read_rest(
 {
     let later = scanning::read_later(page, first, posted, extras.count, more, sizes)?;
     Ok(Outline {
-        head: DataSlot::at(page, first),
+        head: ring::read::<DataSlot>(page, first),
         slots: later.count + 1 + extras.count,
         extras: extras.count,
         later_bytes: later.sum,
@@ -52,7 +52,7 @@ pub fn read(
     requires { (1 ≤ posted) × (posted ≤ 256) }
     ensures { FrontRead (transmit_slots page.now first posted) sizes.old sizes.new result }
 {
-    let head = DataSlot::at(page, first);
+    let head = ring::read::<DataSlot>(page, first);
     let more = head.more_data();
     let announced = head.extra_follows();
     if !announced {

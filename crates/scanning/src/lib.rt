@@ -31,7 +31,7 @@ pub fn read_extras(
         if count == posted {
             return Err(Unfinished::Beginning);
         }
-        let extra = Extra::at(page, ring::ahead(first, count));
+        let extra = ring::read::<Extra>(page, ring::ahead(first, count));
         if extra.kind != Extra::GSO {
             return Err(Unfinished::Misshapen);
         }
@@ -68,7 +68,7 @@ pub fn read_later(
         if i == posted {
             return Err(Unfinished::Beginning);
         }
-        let slot = DataSlot::at(page, ring::ahead(first, i));
+        let slot = ring::read::<DataSlot>(page, ring::ahead(first, i));
         if slot.extra_follows() {
             return Err(Unfinished::Misshapen);
         }
