@@ -2,6 +2,7 @@
 -- has one division, and the rest of it ends in one way.
 use mathlib.Core.Path.{◌≡◌, refl, sym, ap, ◌∙◌}
 use mathlib.Core.List.{List, [], ◌∷◌, map}
+use Rattle.std.specs.Prelude.{Result, Ok, Err}
 use Prim.Native.Nat.{ℕ}
 use lib.ListN.{length}
 use borrow.Author.Tests.{eq-eqb, ne_eqb, le-leb, lt-leb}
@@ -15,8 +16,8 @@ use Rattle.division.specs.Fast.{ending_of, cuts_of, lengths_of, divided_of, tabl
 use Rattle.division.specs.declared.Ending.{Ending}
 use Rattle.division.specs.declared.Ending.TheVariants as ending
 use Rattle.division.specs.declared.Cuts.{Cuts}
-use Rattle.division.specs.declared.Divided.{Divided}
-use Rattle.division.specs.declared.Divided.TheVariants as divided
+use Rattle.division.specs.declared.Refused.{Refused}
+use Rattle.division.specs.declared.Refused.TheVariants as refused
 
 -- a rest at whose front no packet stands ends in one way
 ending_only : (rest : List Slot) (e : Ending) → NoneAtFront rest → EndsAs rest e → e ≡ ending_of rest
@@ -38,16 +39,16 @@ cut_only run before after r a =
     ((λ i. record { count = count i; ending = ending i }), a.table ∙ ap (λ ps. splice before 0 (map length ps)) packets)
 
 -- and so is the answer for bytes lent as a run
-pub divided_only : (bytes before after : List ℕ) (r : Divided) → DividedAs bytes before after r → (r ≡ divided_of bytes) × (after ≡ table_of bytes before)
+pub divided_only : (bytes before after : List ℕ) (r : Result Cuts Refused) → DividedAs bytes before after r → (r ≡ divided_of bytes) × (after ≡ table_of bytes before)
 unfolding divided_of table_of
-divided_only bytes before after divided.Uneven h = rw (ne_eqb _ _ h.0) (refl, h.1)
-divided_only bytes before after divided.TooLong h = rw (eq-eqb _ _ h.0, lt-leb _ _ h.1) (refl, h.2)
-divided_only bytes before after (divided.Cut r) h =
+divided_only bytes before after (Err refused.Uneven) h = rw (ne_eqb _ _ h.0) (refl, h.1)
+divided_only bytes before after (Err refused.TooLong) h = rw (eq-eqb _ _ h.0, lt-leb _ _ h.1) (refl, h.2)
+divided_only bytes before after (Ok r) h =
     let (answer, table) = cut_only _ before after r h.2 in
-    rw (eq-eqb _ _ h.0, le-leb _ _ h.1) (ap divided.Cut answer, table)
+    rw (eq-eqb _ _ h.0, le-leb _ _ h.1) (ap Ok answer, table)
 
 -- so both readers answer the same on every run, and leave the same table where they were lent the same
-pub readers_agree : (bytes before after after' : List ℕ) (slow fast : Divided)
+pub readers_agree : (bytes before after after' : List ℕ) (slow fast : Result Cuts Refused)
     → DividedAs bytes before after slow → (fast ≡ divided_of bytes) × (after' ≡ table_of bytes before)
     → (slow ≡ fast) × (after ≡ after')
 readers_agree bytes before after after' slow fast h k =

@@ -8,15 +8,12 @@ use native.Mathlib.Omega.{arith}
 use lib.ListN.{length}
 use lib.Dec.{ltb}
 use borrow.Author.Tests.{lt-ltb, le-ltb}
+use Rattle.std.specs.Cmp.Derive.{both_true}
 use Rattle.words.proofs.Word.{and_both}
 use Rattle.netif.specs.Slot.{Slot}
 use Rattle.grammar.specs.Grammar.{Chain, final, linked, Owed}
 use Rattle.grammar.proofs.Scan.{link, chain_some}
 use Rattle.division.specs.Shape.{alike, link_at, begun}
-
--- both tests passed
-pub both : (a b : Bool) → a ≡ true → b ≡ true → a && b ≡ true
-both a b p q = rw (p, q)
 
 -- two that say the same are equal
 pub alike_same : (a b : Bool) → alike a b ≡ true → a ≡ b
@@ -39,7 +36,7 @@ module _ (right announces : Slot → Bool) (n : ℕ) where
 
   right_link : (j : ℕ) (s : Slot) → right s ≡ true → announces s ≡ ltb (suc j) n → link_at right announces n j s ≡ true
   unfolding link_at
-  right_link j s p q = both (right s) _ p (same_alike (announces s) (ltb (suc j) n) q)
+  right_link j s p q = both_true p (same_alike (announces s) (ltb (suc j) n) q)
 
   -- all of n slots from place j on are a chain, if there are any
   pub begun_owed : (l : List Slot) (j : ℕ) → begun right announces n j l ≡ true → j + length l ≡ n → Owed (ltb j n) right announces l
@@ -52,22 +49,22 @@ module _ (right announces : Slot → Bool) (n : ℕ) where
   -- a chain's slots are right at their places
   chain_begun : (l : List Slot) (j : ℕ) → Chain right announces l → j + length l ≡ n → begun right announces n j l ≡ true
   chain_begun [] j x e = elim x [ ]
-  chain_begun (s ∷ []) j (final r a) e = both _ _ (right_link j s r (a ∙ sym (le-ltb (suc j) n (omega arith)))) refl
-  chain_begun (s ∷ l) j (linked r a c) e = both _ _ (right_link j s r (a ∙ sym (lt-ltb (suc j) n (omega (arith, chain_some c))))) (chain_begun l (suc j) c (omega arith))
+  chain_begun (s ∷ []) j (final r a) e = both_true (right_link j s r (a ∙ sym (le-ltb (suc j) n (omega arith)))) refl
+  chain_begun (s ∷ l) j (linked r a c) e = both_true (right_link j s r (a ∙ sym (lt-ltb (suc j) n (omega (arith, chain_some c))))) (chain_begun l (suc j) c (omega arith))
 
   -- the first of some slots
   pub begun_front : (l t : List Slot) (j : ℕ) → begun right announces n j (l ++ t) ≡ true → begun right announces n j l ≡ true
   begun_front [] t j h = refl
   begun_front (s ∷ l) t j h =
       let (p, q) = and_both (link_at right announces n j s) (begun right announces n (suc j) (l ++ t)) h in
-      both _ _ p (begun_front l t (suc j) q)
+      both_true p (begun_front l t (suc j) q)
 
   pub begun_join : (l t : List Slot) (j : ℕ) → begun right announces n j l ≡ true → begun right announces n (j + length l) t ≡ true → begun right announces n j (l ++ t) ≡ true
   begun_join [] t j h k = (let z : j + 0 ≡ j = omega arith in rw z at k)
   begun_join (s ∷ l) t j h k =
       let (p, q) = and_both (link_at right announces n j s) (begun right announces n (suc j) l) h in
       let z : j + suc (length l) ≡ suc j + length l = omega arith in
-      both _ _ p (begun_join l t (suc j) q (rw z at k))
+      both_true p (begun_join l t (suc j) q (rw z at k))
 
   -- so too where nothing is owed
   pub owed_begun : (b : Bool) (l : List Slot) → Owed b right announces l → length l ≡ n → begun right announces n 0 l ≡ true
@@ -97,6 +94,6 @@ module _ (more last : Slot) where
     pub filling_begun : (k j : ℕ) → j + k ≡ n → begun right announces n j (filling k) ≡ true
     unfolding filling
     filling_begun zero j e = refl
-    filling_begun (suc zero) j e = both _ _ (right_link right announces n j last last-right (last-last ∙ sym (le-ltb (suc j) n (omega arith)))) refl
+    filling_begun (suc zero) j e = both_true (right_link right announces n j last last-right (last-last ∙ sym (le-ltb (suc j) n (omega arith)))) refl
     filling_begun (suc (suc k)) j e =
-        both _ _ (right_link right announces n j more more-right (more-more ∙ sym (lt-ltb (suc j) n (omega arith)))) (filling_begun (suc k) (suc j) (omega arith))
+        both_true (right_link right announces n j more more-right (more-more ∙ sym (lt-ltb (suc j) n (omega arith)))) (filling_begun (suc k) (suc j) (omega arith))

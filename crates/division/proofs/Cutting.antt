@@ -2,6 +2,7 @@
 -- more, and where no packet stands at the front of what is left.
 use mathlib.Core.Path.{◌≡◌, refl, sym, ap, ◌∙◌, subst}
 use mathlib.Core.List.{List, [], ◌∷◌, ◌++◌, map, map-append, append_assoc}
+use Rattle.std.specs.Prelude.{Result, Ok}
 use Prim.Native.Nat.{ℕ, ◌+◌, ◌-◌, ◌≤◌, ◌<◌}
 use native.Mathlib.Omega.{arith}
 use lib.ListN.{length, take, drop, set, length-append, length-map, take-append-drop}
@@ -14,8 +15,6 @@ use Rattle.grammar.proofs.Grammar.{packet_some}
 use Rattle.grammar.proofs.Service.{join_snoc, each_append}
 use Rattle.division.specs.Answer.{EndsAs, CutAs, StepIs}
 use Rattle.division.specs.declared.Ending.{Ending}
-use Rattle.division.specs.declared.Step.{Step}
-use Rattle.division.specs.declared.Step.TheVariants as step
 
 -- no packet stands at the front of nothing
 pub none_of_nothing : (l : List Slot) → l ≡ [] → NoneAtFront l
@@ -23,10 +22,10 @@ unfolding NoneAtFront
 none_of_nothing l z p t h k = omega (arith, packet_some k, length-append p t, ap length (sym h ∙ z))
 
 -- a packet at the front of the slots that are left has one slot at least, and no more than these
-pub packet_left : (left : List Slot) (slots at n : ℕ) (r : Step) → length left ≡ slots - at → at ≤ slots → r ≡ step.Packet n → StepIs left r
-    → (1 ≤ n) × (at + n ≤ slots) × StepIs left (step.Packet n)
+pub packet_left : (left : List Slot) (slots at n : ℕ) (r : Result ℕ Ending) → length left ≡ slots - at → at ≤ slots → r ≡ Ok n → StepIs left r
+    → (1 ≤ n) × (at + n ≤ slots) × StepIs left (Ok n)
 packet_left left slots at n r size h e s =
-    let p : StepIs left (step.Packet n) = subst (StepIs left) e s in
+    let p : StepIs left (Ok n) = subst (StepIs left) e s in
     (omega (arith, packet_some p.1, length-take-le n left p.0), omega (arith, p.0), p)
 
 module _ (run : List Slot) (before : List ℕ) where

@@ -9,6 +9,7 @@ use native.Mathlib.Omega.{arith}
 use lib.ListN.{length, take, drop, length-append, length-drop, length-take, take-append-drop, drop_of_length-le}
 use lib.Seq.{length-take-le, take_at, drop_at, take_all, take-append-le, drop-append-le, take-append-add}
 use lib.Dec.{ltb}
+use Rattle.std.specs.Cmp.Derive.{both_true}
 use Rattle.words.specs.Word.{bit, u16_at}
 use Rattle.words.proofs.Word.{and_both, lt_or_ge}
 use Rattle.words.proofs.Lists.{length_zero}
@@ -16,7 +17,7 @@ use Rattle.netif.specs.Slot.{Slot, flags, more_data, extra_follows, is_extra, an
 use Rattle.grammar.specs.Grammar.{within, is_later, Packet, Begins, BeginsProperly}
 use Rattle.grammar.proofs.Grammar.{packet_length}
 use Rattle.division.specs.Shape.{alike, begun, follows, leads, shaped}
-use Rattle.division.proofs.Chains.{both, alike_same, same_alike, begun_owed, owed_begun, begun_front, begun_join, owed_some, filling, filling_length, filling_begun}
+use Rattle.division.proofs.Chains.{alike_same, same_alike, begun_owed, owed_begun, begun_front, begun_join, owed_some, filling, filling_length, filling_begun}
 
 -- ---- from a shape to a packet
 
@@ -49,11 +50,11 @@ packet_shape {l} p =
     let xs = p.extras in
     let ys = p.later in
     rw (p.slots, take_at xs ys (length xs) refl, drop_at xs ys (length xs) refl)
-    (both _ _
-    (both _ _
+    (both_true
+    (both_true
     (same_alike (extra_follows p.first) (ltb 0 (length xs)) (owed_some is_extra another_extra (extra_follows p.first) xs p.extras_owed))
     (same_alike (more_data p.first) (ltb 0 (length ys)) (owed_some is_later more_data (more_data p.first) ys p.later_owed)))
-    (both _ _
+    (both_true
     (owed_begun is_extra another_extra (length xs) (extra_follows p.first) xs p.extras_owed refl)
     (owed_begun is_later more_data (length ys) (more_data p.first) ys p.later_owed refl)))
 
@@ -68,15 +69,15 @@ follows_front d e q t h =
     let none : drop e q ≡ [] = drop_of_length-le q {i = e} (omega arith) in
     let z : e ≡ length q + (e - length q) = omega arith in
     let more : take e (q ++ t) ≡ q ++ take (e - length q) t = ap (λ n. take n (q ++ t)) z ∙ take-append-add q t (e - length q) in
-    rw (all, none) (both _ _ (begun_front is_extra another_extra e q (take (e - length q) t) 0 (rw more at f)) refl))
-    (λ k. both _ _ (rw (take-append-le e q t k) at f) (begun_front is_later more_data d (drop e q) t 0 (rw (drop-append-le e q t k) at g)))
+    rw (all, none) (both_true (begun_front is_extra another_extra e q (take (e - length q) t) 0 (rw more at f)) refl))
+    (λ k. both_true (rw (take-append-le e q t k) at f) (begun_front is_later more_data d (drop e q) t 0 (rw (drop-append-le e q t k) at g)))
     (lt_or_ge (length q) e)
 
 shaped_front : (d e : ℕ) (l t : List Slot) → shaped d e (l ++ t) ≡ true → shaped d e l ≡ true
 shaped_front d e [] t h = refl
 shaped_front d e (s ∷ q) t h =
     let (a, b) = and_both (leads d e s) (follows d e (q ++ t)) h in
-    both _ _ a (follows_front d e q t b)
+    both_true a (follows_front d e q t b)
 
 -- slots that begin a packet agree with its shape
 pub begins_shape : (l : List Slot) → Begins l → (d : ℕ) × (e : ℕ) × (within (suc d) e ≡ true) × (length l ≤ suc d + e) × (shaped d e l ≡ true)
@@ -127,7 +128,7 @@ module _ (d e : ℕ) (w : within (suc d) e ≡ true) where
       = begun_join is_later more_data d (drop e q) ys 0 g (later_filled d (d - (length q - e)) (0 + length (drop e q)) (omega (arith, length-drop e q))) in
       let p = shape_packet d e w (s ∷ ((take e q ++ xs) ++ (drop e q ++ ys)))
       (omega (arith, length-append (take e q ++ xs) (drop e q ++ ys)))
-      (rw (take_at (take e q ++ xs) (drop e q ++ ys) e extras, drop_at (take e q ++ xs) (drop e q ++ ys) e extras) (both _ _ a (both _ _ f' g'))) in
+      (rw (take_at (take e q ++ xs) (drop e q ++ ys) e extras, drop_at (take e q ++ xs) (drop e q ++ ys) e extras) (both_true a (both_true f' g'))) in
       (xs ++ ys, some_more (xs ++ ys) (omega (arith, length-append xs ys)), rw (regroup q xs ys x) p)
     where
       regroup : (q xs ys : List Slot) → length xs ≡ e - length q → q ++ (xs ++ ys) ≡ (take e q ++ xs) ++ (drop e q ++ ys)

@@ -1,16 +1,14 @@
 -- What the slow reader answers, by the grammar alone: the answer and its table are stated without a divider.
-use Rattle.std.specs.Prelude.{◌≡◌, ◌≢◌, List, [], map, ℕ, ◌/◌, ◌%◌, ◌≤◌, ◌<◌, length, take}
+use Rattle.std.specs.Prelude.{◌≡◌, ◌≢◌, Result, Ok, Err, List, [], map, ℕ, ◌/◌, ◌%◌, ◌≤◌, ◌<◌, length, take}
 use Rattle.words.specs.Word.{splice}
 use Rattle.netif.specs.Slot.{Slot, slot_width, slot_count}
 use Rattle.grammar.specs.Grammar.{Packet, Begins, BeginsProperly, NoneAtFront, Division}
 use Rattle.division.specs.Run.{run_of}
 use Rattle.division.specs.declared.Ending.{Ending}
 use Rattle.division.specs.declared.Ending.TheVariants as ending
-use Rattle.division.specs.declared.Step.{Step}
-use Rattle.division.specs.declared.Step.TheVariants as step
 use Rattle.division.specs.declared.Cuts.{Cuts}
-use Rattle.division.specs.declared.Divided.{Divided}
-use Rattle.division.specs.declared.Divided.TheVariants as divided
+use Rattle.division.specs.declared.Refused.{Refused}
+use Rattle.division.specs.declared.Refused.TheVariants as refused
 
 -- what is left of a run (document 01: the rest): nothing, a nonempty proper beginning of a packet, or the beginning of none
 abbrev pub EndsAs : List Slot → Ending → Type 0
@@ -35,13 +33,13 @@ pub record CutAs (run : List Slot) (before after : List ℕ) (r : Cuts) : Type 0
   pub ending : EndsAs rest r.ending
 
 -- the answer for bytes lent as a run; a refusal leaves the table
-abbrev pub DividedAs : List ℕ → (before after : List ℕ) → Divided → Type 0
-DividedAs bytes before after divided.Uneven = (length bytes % slot_width ≢ 0) × (after ≡ before)
-DividedAs bytes before after divided.TooLong = (length bytes % slot_width ≡ 0) × (slot_count < length bytes / slot_width) × (after ≡ before)
-DividedAs bytes before after (divided.Cut r) =
+abbrev pub DividedAs : List ℕ → (before after : List ℕ) → Result Cuts Refused → Type 0
+DividedAs bytes before after (Err refused.Uneven) = (length bytes % slot_width ≢ 0) × (after ≡ before)
+DividedAs bytes before after (Err refused.TooLong) = (length bytes % slot_width ≡ 0) × (slot_count < length bytes / slot_width) × (after ≡ before)
+DividedAs bytes before after (Ok r) =
     (length bytes % slot_width ≡ 0) × (length bytes / slot_width ≤ slot_count) × CutAs (run_of bytes) before after r
 
--- what stands at the front of the slots that are left
-abbrev pub StepIs : List Slot → Step → Type 0
-StepIs l (step.Packet n) = (n ≤ length l) × Packet (take n l)
-StepIs l (step.Stop e) = NoneAtFront l × EndsAs l e
+-- what stands at the front of the slots that are left: a packet of so many slots, or none, as the rest ends
+abbrev pub StepIs : List Slot → Result ℕ Ending → Type 0
+StepIs l (Ok n) = (n ≤ length l) × Packet (take n l)
+StepIs l (Err e) = NoneAtFront l × EndsAs l e

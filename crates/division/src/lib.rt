@@ -3,35 +3,64 @@
 // other code.
 #![tactic(auto)]
 
+ghost use Rattle.std.specs.Prelude.{◌≡◌};
+ghost use Rattle.division.specs.Answer.{number_of};
+
+use std::fmt;
+
 // What the rest of a run is: nothing, a proper beginning of a packet, or the beginning of none.
-#[derive(Clone, Copy)]
+#[derive(Clone, Copy, PartialEq, Eq)]
 pub enum Ending {
     Empty,
     Waiting,
     Misshapen,
 }
 
-// What stands at the front of a run: a packet of so many slots, or none, as the rest ends.
-#[derive(Clone, Copy)]
-pub enum Step {
-    Packet(usize),
-    Stop(Ending),
+// Document 01's number of a rest.
+impl From<Ending> for u32 {
+    ghost from_gives = { λ ending n. n ≡ number_of ending };
+
+    fn from(ending: Ending) -> u32 {
+        match ending {
+            Ending::Empty => 4,
+            Ending::Waiting => 6,
+            Ending::Misshapen => 5,
+        }
+    }
+}
+
+impl fmt::Display for Ending {
+    fn fmt<W: fmt::Write>(&self, f: &mut fmt::Formatter<W>) -> fmt::Result {
+        match self {
+            Ending::Empty => write!(f, "empty"),
+            Ending::Waiting => write!(f, "waiting"),
+            Ending::Misshapen => write!(f, "misshapen"),
+        }
+    }
 }
 
 // A division: how many packets were cut off, and what the rest is. How many slots each packet has stands in a table.
-#[derive(Clone, Copy)]
+// The table is the caller's, with its count here: `DividedAs` promises that its places behind the cuts stay.
+#[derive(Clone, Copy, PartialEq, Eq)]
 pub struct Cuts {
     pub count: usize,
     pub ending: Ending,
 }
 
-// The answer for bytes lent as a run.
-#[derive(Clone, Copy)]
-pub enum Divided {
+// Why bytes that were lent as a run were not divided.
+#[derive(Clone, Copy, PartialEq, Eq)]
+pub enum Refused {
     // The bytes are no whole number of slots.
     Uneven,
     // There are more than 256 slots.
     TooLong,
-    // The run's division.
-    Cut(Cuts),
+}
+
+impl fmt::Display for Refused {
+    fn fmt<W: fmt::Write>(&self, f: &mut fmt::Formatter<W>) -> fmt::Result {
+        match self {
+            Refused::Uneven => write!(f, "uneven"),
+            Refused::TooLong => write!(f, "too-long"),
+        }
+    }
 }
