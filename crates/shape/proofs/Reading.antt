@@ -1,7 +1,6 @@
--- The slow reader's code held against the shape of a packet: each way out of `link`, of the loop of `chain`, of `follow` and of
--- `shaped` is one law.
-use mathlib.Core.Path.{◌≡◌, ◌∙◌, sym, ap}
-use mathlib.Core.Bool.{Bool, true, false, not, ◌&&◌}
+-- The slow reader's code held against the shape of a packet: what `link`, `chain`, `follow` and `shaped` answer.
+use mathlib.Core.Path.{◌≡◌, ◌∙◌, refl, ap}
+use mathlib.Core.Bool.{Bool, true, false, beq, ◌&&◌}
 use mathlib.Core.List.{List}
 use mathlib.Core.Logic.{⊎_elim}
 use Prim.Native.Nat.{ℕ, ◌+◌, ◌-◌, ◌≤◌, ◌<◌, suc, min}
@@ -10,42 +9,35 @@ use native.Mathlib.Numerals.{add-one}
 use lib.Dec.{ltb}
 use lib.ListN.{take, drop, drop_of_length-le}
 use lib.Seq.{take_all}
-use borrow.Author.Tests.{not-true, not-false}
+use Rattle.std.specs.Prelude.{Option, Some, None, if◌then◌else◌}
+use Rattle.std.specs.Option.{option_eq}
 use Rattle.words.specs.Word.{bit}
 use Rattle.words.proofs.Word.{lt_or_ge}
 use Rattle.netif.specs.Slot.{Slot, more_data, is_extra, another_extra}
-use Rattle.netif.specs.Decode.{data_of, extra_of}
+use Rattle.netif.specs.Decode.{data_of}
 use Rattle.netif.specs.declared.DataSlot.{DataSlot}
-use Rattle.netif.specs.declared.Extra.{Extra}
 use Rattle.grammar.specs.Grammar.{is_later}
-use Rattle.grammar.proofs.Loop.{kind_other, kind_extra, another_bit, more_bit, follows_bit}
+use Rattle.grammar.proofs.Loop.{more_bit, follows_bit}
 use Rattle.division.specs.Run.{slot_in, slots_in}
 use Rattle.division.specs.Shape.{alike, link_at, begun, follows, leads, shaped}
-use Rattle.shape.specs.Kinds.{right_of, announces_of}
-use Rattle.shape.specs.declared.Kind.{Kind}
-use Rattle.shape.specs.declared.Kind.TheVariants as kinds
 use Rattle.division.proofs.Runs.{slots_next, slots_length, slots_take, slots_drop}
 
--- ---- a slot at its place
+-- two tests that are compared
+pub alike_beq : (a b : Bool) → beq a b ≡ alike a b
+alike_beq true true = refl
+alike_beq true false = refl
+alike_beq false true = refl
+alike_beq false false = refl
 
-module _ (kind : Kind) (n j : ℕ) (s : Slot) where
-  module _ (k : kind ≡ kinds.Extra) (r : Extra) (h : r ≡ extra_of s) where
-    pub extra_wrong : (r.kind ≡ 1 → ⊥) → false ≡ link_at (right_of kind) (announces_of kind) n j s
-    unfolding link_at
-    extra_wrong w = rw (k, kind_other s r h w)
-
-    pub extra_right : r.kind ≡ 1 → (a b : Bool) → a ≡ bit 0 r.flags → b ≡ alike a (ltb (j + 1) n) → b ≡ link_at (right_of kind) (announces_of kind) n j s
-    unfolding link_at
-    extra_right w a b p q = q ∙ rw (k, kind_extra s r h w, p ∙ another_bit s r h, add-one)
-
-  module _ (k : kind ≡ kinds.Later) (r : DataSlot) (h : r ≡ data_of s) (x : Bool) (f : x ≡ bit 3 r.flags) where
-    pub later_wrong : x ≡ true → false ≡ link_at (right_of kind) (announces_of kind) n j s
-    unfolding link_at
-    later_wrong w = rw (k, ← follows_bit s r h, ← f, w)
-
-    pub later_right : x ≡ false → (a b : Bool) → a ≡ bit 2 r.flags → b ≡ alike a (ltb (j + 1) n) → b ≡ link_at (right_of kind) (announces_of kind) n j s
-    unfolding link_at
-    later_right w a b p q = q ∙ rw (k, ← follows_bit s r h, ← f, w, p ∙ more_bit s r h, add-one)
+-- a slot of a kind that announces another exactly if it is not the last
+pub link_here : (right announces : Slot → Bool) (n j : ℕ) (s : Slot) (o : Option Bool) (r : Bool) → o ≡ (if right s then Some (announces s) else None)
+    → r ≡ option_eq beq o (Some (ltb (j + 1) n)) → r ≡ link_at right announces n j s
+unfolding link_at
+link_here right announces n j s o r p q = q ∙ rw (p, add-one) (go (right s))
+  where
+    go : (b : Bool) → option_eq beq (if b then Some (announces s) else None) (Some (ltb (suc j) n)) ≡ (b && alike (announces s) (ltb (suc j) n))
+    go true = alike_beq (announces s) (ltb (suc j) n)
+    go false = refl
 
 -- the loop over a chain's slots: what is asked of those that are left
 module _ (right announces : Slot → Bool) (n : ℕ) (bytes : List ℕ) (from count : ℕ) where
@@ -65,11 +57,11 @@ module _ (right announces : Slot → Bool) (n : ℕ) (bytes : List ℕ) (from co
 
   -- r is what the slot's test gave
   module _ (j : ℕ) (h : j < count) (r : Bool) (e : r ≡ link_at right announces n j (slot_in bytes (from + j))) where
-    pub asked_wrong : not r ≡ true → asked j ≡ false
-    asked_wrong w = rw (slots_next bytes from j count h, ← e, not-true r w)
+    pub asked_wrong : r ≡ false → asked j ≡ false
+    asked_wrong w = rw (slots_next bytes from j count h, ← e, w)
 
-    pub asked_next : not r ≡ false → asked j ≡ asked (j + 1)
-    asked_next w = rw (slots_next bytes from j count h, ← e, not-false r w, add-one)
+    pub asked_next : r ≡ true → asked j ≡ asked (j + 1)
+    asked_next w = rw (slots_next bytes from j count h, ← e, w, add-one)
 
 -- ---- behind the first slot
 
@@ -95,36 +87,26 @@ module _ (bytes : List ℕ) (from count later extras seen : ℕ) (s : seen ≡ m
       slots_drop bytes extras count from h ∙ rw z)
       (lt_or_ge count extras)
 
-  -- r is what the test of the extras gave, and b that of the later data slots
+  -- r is what the test of the extras gave
   module _ (r : Bool) (e : r ≡ begun is_extra another_extra extras 0 (slots_in bytes from seen)) where
-    pub follows_wrong : not r ≡ true → false ≡ follows later extras (slots_in bytes from count)
+    pub follows_wrong : r ≡ false → r ≡ follows later extras (slots_in bytes from count)
     unfolding follows
-    follows_wrong w = rw (seen_extras, ← e, not-true r w)
+    follows_wrong w = w ∙ rw (seen_extras, ← e, w)
 
-    pub follows_right : not r ≡ false → (b : Bool) → b ≡ begun is_later more_data later 0 (slots_in bytes (from + seen) (count - seen)) → b ≡ follows later extras (slots_in bytes from count)
+    pub follows_right : r ≡ true → (b : Bool) → b ≡ begun is_later more_data later 0 (slots_in bytes (from + seen) (count - seen)) → b ≡ follows later extras (slots_in bytes from count)
     unfolding follows
-    follows_right w b g = rw (seen_extras, ← e, not-false r w, seen_later) g
+    follows_right w b g = rw (seen_extras, ← e, w, seen_later) g
 
 -- ---- with the first slot
 
-module _ (bytes : List ℕ) (at n later extras : ℕ) (some : 1 ≤ n) where
-  by_first : shaped later extras (slots_in bytes at n) ≡ (leads later extras (slot_in bytes at) && follows later extras (slots_in bytes (at + 1) (n - 1)))
-  by_first =
-      let z : n ≡ suc (n - 1) = omega arith in
-      let y : suc at ≡ at + 1 = omega arith in
-      ap (λ k. shaped later extras (slots_in bytes at k)) z ∙ rw y
+-- what a first slot announces
+pub leads_here : (later extras : ℕ) (s : Slot) (r : DataSlot) → r ≡ data_of s → (beq (bit 3 r.flags) (ltb 0 extras) && beq (bit 2 r.flags) (ltb 0 later)) ≡ leads later extras s
+unfolding leads
+leads_here later extras s r h = rw (follows_bit s r h, more_bit s r h, alike_beq _ _, alike_beq _ _)
 
-  -- x and m are the first slot's bits, t and u what comparing them gave, and b what was found of the slots behind
-  module _ (r : DataSlot) (h : r ≡ data_of (slot_in bytes at)) (x : Bool) (p : x ≡ bit 3 r.flags) (t : Bool) (e : t ≡ alike x (ltb 0 extras)) where
-    pub shaped_no_extra : not t ≡ true → false ≡ shaped later extras (slots_in bytes at n)
-    unfolding leads
-    shaped_no_extra w = sym (by_first ∙ rw (← follows_bit (slot_in bytes at) r h, ← p, ← e, not-true t w))
-
-    module _ (w : not t ≡ false) (m : Bool) (q : m ≡ bit 2 r.flags) (u : Bool) (f : u ≡ alike m (ltb 0 later)) where
-      pub shaped_no_more : not u ≡ true → false ≡ shaped later extras (slots_in bytes at n)
-      unfolding leads
-      shaped_no_more v = sym (by_first ∙ rw (← follows_bit (slot_in bytes at) r h, ← p, ← e, not-false t w, ← more_bit (slot_in bytes at) r h, ← q, ← f, not-true u v))
-
-      pub shaped_behind : not u ≡ false → (b : Bool) → b ≡ follows later extras (slots_in bytes (at + 1) (n - 1)) → b ≡ shaped later extras (slots_in bytes at n)
-      unfolding leads
-      shaped_behind v b g = g ∙ sym (by_first ∙ rw (← follows_bit (slot_in bytes at) r h, ← p, ← e, not-false t w, ← more_bit (slot_in bytes at) r h, ← q, ← f, not-false u v))
+pub by_first : (bytes : List ℕ) (at n later extras : ℕ) → 1 ≤ n
+    → shaped later extras (slots_in bytes at n) ≡ (leads later extras (slot_in bytes at) && follows later extras (slots_in bytes (at + 1) (n - 1)))
+by_first bytes at n later extras some =
+    let z : n ≡ suc (n - 1) = omega arith in
+    let y : suc at ≡ at + 1 = omega arith in
+    ap (λ k. shaped later extras (slots_in bytes at k)) z ∙ rw y

@@ -2,10 +2,10 @@
 use Rattle.shape.proofs.Reading.{follows_wrong, follows_right}
 use Rattle.shape.proofs.follow.Goals as goal
 
-pub returns-then-not-chain : goal.returns-then-not-chain
-returns-then-not-chain c = let a = c.args in
-    follows_wrong a.run.now a.from a.count a.later a.extras c.smaller-seen.result c.smaller-seen.ensures _ c.chain.ensures c.if-not-chain.true-raw
+pub returns-then-chain : goal.returns-then-chain
+returns-then-chain c = let a = c.args in
+    follows_right a.run.now a.from a.count a.later a.extras _ c.min-seen.ensures _ c.chain.ensures c.if-chain.true _ c.chain-then-chain.ensures
 
-pub returns : goal.returns
-returns c = let a = c.args in
-    follows_right a.run.now a.from a.count a.later a.extras c.smaller-seen.result c.smaller-seen.ensures _ c.chain.ensures c.if-not-chain.false-raw _ c.chain-2.ensures
+pub returns-else-chain : goal.returns-else-chain
+returns-else-chain c = let a = c.args in
+    follows_wrong a.run.now a.from a.count a.later a.extras _ c.min-seen.ensures _ c.chain.ensures c.if-chain.false
