@@ -8,6 +8,7 @@ ghost use Rattle.division.specs.Run.{slot_in, slots_in};
 ghost use Rattle.division.specs.Shape.{link_at, begun, follows, leads, shaped};
 
 use netif::{DataSlot, Extra};
+use ring::RingSlot;
 
 // A slot behind a packet's first: an extra, or a later data slot.
 trait Behind {
