@@ -1,5 +1,6 @@
 -- Laws of grants: what an answer says of the grant, that a part within the range of a fit grant lies in the window, and that it is a
 -- part of what the grant covers. Each test of the code is one of the definitions', so an answer's law is one `rw`.
+use Rattle.std.specs.Prelude.{Some, None, Ok, Err}
 use mathlib.Core.Path.{◌≡◌, refl, sym, ap, ◌∙◌}
 use mathlib.Core.List.{List}
 use mathlib.Core.Bool.{Bool, true, false, cond, ◌&&◌}
@@ -14,18 +15,17 @@ use Rattle.words.proofs.Word.{no_confusion, and_both}
 use Rattle.words.proofs.Lists.{part_part}
 use Rattle.grant.specs.Grant.{has_word, word_bits, granted, writable, usable, page_of, range_start, range_length, range_end, range_in_page, whole_page, in_range, fit_transmit, fit_receive, page_part, window_part, range_of}
 use Rattle.grant.specs.Lookup.{read_page, write_page, source_of, page_cause, source_cause, WithinGrant, LookedUp}
-use Rattle.grant.specs.declared.Page.TheVariants as page
-use Rattle.grant.specs.declared.Source.TheVariants as source
+use Rattle.grant.specs.declared.Unlent.TheVariants.{Unfit, Outside}
 
 pub and_false : (a : Bool) → a && false ≡ false
 and_false true = refl
 and_false false = refl
 
-when_fit : (b : Bool) (n p : ℕ) → page.Fit p ≡ cond b (page.Fit n) page.Unfit → (b ≡ true) × (p ≡ n)
+when_fit : (b : Bool) (n p : ℕ) → Some p ≡ cond b (Some n) None → (b ≡ true) × (p ≡ n)
 when_fit true n p h = (refl, (cc))
 when_fit false n p h = no_confusion cc
 
-when_unfit : (b : Bool) (n : ℕ) → page.Unfit ≡ cond b (page.Fit n) page.Unfit → b ≡ false
+when_unfit : (b : Bool) (n : ℕ) → None ≡ cond b (Some n) None → b ≡ false
 when_unfit true n h = no_confusion cc
 when_unfit false n h = refl
 
@@ -43,17 +43,17 @@ whole_length table g h = go (eqb (range_length table g) 4096) refl
     go true k = rw (eq-eqb (range_start table g) 0 (omega (arith, h, eqb-true (range_length table g) 4096 k)))
     go false k = sym (and_false (eqb (range_start table g) 0))
 
-when_no_source : (f b : Bool) (p : ℕ) → source.Unfit ≡ cond f (cond b (source.At p) source.Outside) source.Unfit → f ≡ false
+when_no_source : (f b : Bool) (p : ℕ) → Err Unfit ≡ cond f (cond b (Ok p) (Err Outside)) (Err Unfit) → f ≡ false
 when_no_source true true p h = no_confusion cc
 when_no_source true false p h = no_confusion cc
 when_no_source false b p h = refl
 
-when_outside : (f b : Bool) (p : ℕ) → source.Outside ≡ cond f (cond b (source.At p) source.Outside) source.Unfit → (f ≡ true) × (b ≡ false)
+when_outside : (f b : Bool) (p : ℕ) → Err Outside ≡ cond f (cond b (Ok p) (Err Outside)) (Err Unfit) → (f ≡ true) × (b ≡ false)
 when_outside true true p h = no_confusion cc
 when_outside true false p h = (refl, refl)
 when_outside false b p h = no_confusion cc
 
-when_at : (f b : Bool) (n p : ℕ) → source.At p ≡ cond f (cond b (source.At n) source.Outside) source.Unfit → (f ≡ true) × (b ≡ true) × (p ≡ n)
+when_at : (f b : Bool) (n p : ℕ) → Ok p ≡ cond f (cond b (Ok n) (Err Outside)) (Err Unfit) → (f ≡ true) × (b ≡ true) × (p ≡ n)
 when_at true true n p h = (refl, refl, (cc))
 when_at true false n p h = no_confusion cc
 when_at false b n p h = no_confusion cc
@@ -93,7 +93,7 @@ module _ (table window : List ℕ) (g : ℕ) where
 
   -- ---- the answer of `fit_to_read`, test by test
 
-  pub no_word : length table < 8 * g + 8 → page.Unfit ≡ read_page table window g
+  pub no_word : length table < 8 * g + 8 → None ≡ read_page table window g
   unfolding read_page fit_transmit has_word
   no_word h = rw (lt-leb (8 * g + 8) (length table) h)
 
@@ -103,44 +103,40 @@ module _ (table window : List ℕ) (g : ℕ) where
     unfolding has_word
     has_word_lem = le-leb (8 * g + 8) (length table) some
 
-    pub range_too_long : 4096 < range_end table g → page.Unfit ≡ read_page table window g
+    pub range_too_long : 4096 < range_end table g → None ≡ read_page table window g
     unfolding read_page fit_transmit range_in_page
     range_too_long h = rw (lt-leb (range_end table g) 4096 h, and_false (has_word table g && granted table g))
 
     module _ (w : ℕ) (reads : w ≡ u32_at table (8 * g)) where
-      pub not_usable : length window < 4096 * (w / 4) + 4096 → page.Unfit ≡ read_page table window g
+      pub not_usable : length window < 4096 * (w / 4) + 4096 → None ≡ read_page table window g
       unfolding read_page fit_transmit usable page_of word_bits
       not_usable h = rw (← reads, lt-leb (4096 * (w / 4) + 4096) (length window) h, and_false (has_word table g && granted table g && range_in_page table g))
 
-      pub not_granted : bit 0 w ≡ false → page.Unfit ≡ read_page table window g
+      pub not_granted : bit 0 w ≡ false → None ≡ read_page table window g
       unfolding read_page fit_transmit granted word_bits
       not_granted h = rw (← reads, h, and_false (has_word table g))
 
-      pub is_fit : 4096 * (w / 4) + 4096 ≤ length window → bit 0 w ≡ true → range_end table g ≤ 4096 → page.Fit (w / 4) ≡ read_page table window g
+      pub is_fit : 4096 * (w / 4) + 4096 ≤ length window → bit 0 w ≡ true → range_end table g ≤ 4096 → Some (w / 4) ≡ read_page table window g
       unfolding read_page fit_transmit granted range_in_page usable page_of word_bits
       is_fit h b r = rw (← reads, has_word_lem, b, le-leb (range_end table g) 4096 r, le-leb (4096 * (w / 4) + 4096) (length window) h)
 
   -- ---- what it says
 
-  pub read_fit : (p : ℕ) → page.Fit p ≡ read_page table window g → (fit_transmit table window g ≡ true) × (p ≡ page_of table g)
+  pub read_fit : (p : ℕ) → Some p ≡ read_page table window g → (fit_transmit table window g ≡ true) × (p ≡ page_of table g)
   unfolding read_page
   read_fit p h = when_fit (fit_transmit table window g) (page_of table g) p h
 
-  pub read_unfit : page.Unfit ≡ read_page table window g → fit_transmit table window g ≡ false
+  pub read_unfit : None ≡ read_page table window g → fit_transmit table window g ≡ false
   unfolding read_page
   read_unfit h = when_unfit (fit_transmit table window g) (page_of table g) h
 
   -- ---- the answers above it
 
-  pub write_of : (f w : Bool) → fit_transmit table window g ≡ f → writable table g && whole_page table g ≡ w → write_page table window g ≡ cond (f && w) (page.Fit (page_of table g)) page.Unfit
-  unfolding write_page fit_receive
-  write_of f w h k = rw (h, k)
-
-  pub write_fit : (p : ℕ) → page.Fit p ≡ write_page table window g → (fit_receive table window g ≡ true) × (p ≡ page_of table g)
+  pub write_fit : (p : ℕ) → Some p ≡ write_page table window g → (fit_receive table window g ≡ true) × (p ≡ page_of table g)
   unfolding write_page
   write_fit p h = when_fit (fit_receive table window g) (page_of table g) p h
 
-  pub write_unfit : page.Unfit ≡ write_page table window g → fit_receive table window g ≡ false
+  pub write_unfit : None ≡ write_page table window g → fit_receive table window g ≡ false
   unfolding write_page
   write_unfit h = when_unfit (fit_receive table window g) (page_of table g) h
 
@@ -162,34 +158,34 @@ module _ (table window : List ℕ) (g : ℕ) where
       let (a, b) = and_both (eqb (range_start table g) 0) (eqb (range_length table g) 4096) (and_both (writable table g) _ (and_both (fit_transmit table window g) _ h).1).1 in
       rw (eqb-true (range_start table g) 0 a, eqb-true (range_length table g) 4096 b) (le-leb (0 + n) 4096 (omega arith))
 
-  pub source_unfit : (offset n : ℕ) → fit_transmit table window g ≡ false → source.Unfit ≡ source_of table window g offset n
+  pub source_unfit : (offset n : ℕ) → fit_transmit table window g ≡ false → Err Unfit ≡ source_of table window g offset n
   unfolding source_of
   source_unfit offset n h = rw h
 
   module _ (fit : fit_transmit table window g ≡ true) (offset n : ℕ) where
-    pub source_before : offset < range_start table g → source.Outside ≡ source_of table window g offset n
+    pub source_before : offset < range_start table g → Err Outside ≡ source_of table window g offset n
     unfolding source_of in_range
     source_before h = rw (fit, lt-leb (range_start table g) offset h)
 
-    pub source_behind : range_end table g < offset + n → source.Outside ≡ source_of table window g offset n
+    pub source_behind : range_end table g < offset + n → Err Outside ≡ source_of table window g offset n
     unfolding source_of in_range
     source_behind h = rw (fit, lt-leb (offset + n) (range_end table g) h, and_false (leb (range_start table g) offset))
 
-    pub source_at : range_start table g ≤ offset → offset + n ≤ range_end table g → source.At (page_of table g) ≡ source_of table window g offset n
+    pub source_at : range_start table g ≤ offset → offset + n ≤ range_end table g → Ok (page_of table g) ≡ source_of table window g offset n
     unfolding source_of in_range
     source_at h k = rw (fit, le-leb (range_start table g) offset h, le-leb (offset + n) (range_end table g) k)
 
   -- what each answer says of the grant and the part
   module _ (offset n : ℕ) where
-    pub found_unfit : source.Unfit ≡ source_of table window g offset n → fit_transmit table window g ≡ false
+    pub found_unfit : Err Unfit ≡ source_of table window g offset n → fit_transmit table window g ≡ false
     unfolding source_of
     found_unfit h = when_no_source (fit_transmit table window g) (in_range table g offset n) (page_of table g) h
 
-    pub found_outside : source.Outside ≡ source_of table window g offset n → (fit_transmit table window g ≡ true) × (in_range table g offset n ≡ false)
+    pub found_outside : Err Outside ≡ source_of table window g offset n → (fit_transmit table window g ≡ true) × (in_range table g offset n ≡ false)
     unfolding source_of
     found_outside h = when_outside (fit_transmit table window g) (in_range table g offset n) (page_of table g) h
 
-    pub found_at : (p : ℕ) → source.At p ≡ source_of table window g offset n → (fit_transmit table window g ≡ true) × (in_range table g offset n ≡ true) × (p ≡ page_of table g)
+    pub found_at : (p : ℕ) → Ok p ≡ source_of table window g offset n → (fit_transmit table window g ≡ true) × (in_range table g offset n ≡ true) × (p ≡ page_of table g)
     unfolding source_of
     found_at p h = when_at (fit_transmit table window g) (in_range table g offset n) (page_of table g) p h
 
@@ -199,7 +195,7 @@ module _ (table window : List ℕ) (g : ℕ) where
   unfolding write_page
   write_cause = go (fit_receive table window g)
     where
-      go : (f : Bool) → page_cause (cond f (page.Fit (page_of table g)) page.Unfit) ≡ cond f 0 4
+      go : (f : Bool) → page_cause (cond f (Some (page_of table g)) None) ≡ cond f 0 4
       go true = refl
       go false = refl
 
@@ -207,7 +203,7 @@ module _ (table window : List ℕ) (g : ℕ) where
   unfolding source_of
   source_cause_lem offset n = go (fit_transmit table window g) (in_range table g offset n)
     where
-      go : (f b : Bool) → source_cause (cond f (cond b (source.At (page_of table g)) source.Outside) source.Unfit) ≡ cond f (cond b 0 5) 4
+      go : (f b : Bool) → source_cause (cond f (cond b (Ok (page_of table g)) (Err Outside)) (Err Unfit)) ≡ cond f (cond b 0 5) 4
       go true true = refl
       go true false = refl
       go false b = refl

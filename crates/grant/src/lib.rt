@@ -22,6 +22,7 @@ pub enum Unlent {
 }
 
 // Where the range that reference g grants starts in its page.
+#[tactic(auto, using(crate::proofs::Grant::word_in), unfolding(crate::specs::Grant::range_start))]
 fn range_start(grants: &[u8], gref: u32) -> u16
     requires { has_word grants.now gref ≡ true }
     ensures { result ≡ range_start grants.now gref }
@@ -30,6 +31,7 @@ fn range_start(grants: &[u8], gref: u32) -> u16
 }
 
 // How long it is.
+#[tactic(auto, using(crate::proofs::Grant::word_in), unfolding(crate::specs::Grant::range_length))]
 fn range_length(grants: &[u8], gref: u32) -> u16
     requires { has_word grants.now gref ≡ true }
     ensures { result ≡ range_length grants.now gref }
@@ -38,6 +40,7 @@ fn range_length(grants: &[u8], gref: u32) -> u16
 }
 
 // Where it ends.
+#[tactic(auto, unfolding(crate::specs::Grant::range_end))]
 fn range_end(grants: &[u8], gref: u32) -> usize
     requires { has_word grants.now gref ≡ true }
     ensures { result ≡ range_end grants.now gref }
@@ -47,6 +50,7 @@ fn range_end(grants: &[u8], gref: u32) -> usize
 
 // The page that reference g names, if the grant is fit for transmit. It is held against the numbers of words and of pages, which a
 // loop over slots computes once.
+#[tactic(auto, using(crate::proofs::Grant::no_word, crate::proofs::Grant::has_word_lem, crate::proofs::Grant::range_too_long, crate::proofs::Grant::not_usable, crate::proofs::Grant::not_granted, crate::proofs::Grant::is_fit))]
 pub fn fit_to_read(grants: &[u8], window: &[u8], gref: u32) -> Option<u32>
     ensures { result ≡ read_page grants.now window.now gref }
 {
@@ -68,6 +72,7 @@ pub fn fit_to_read(grants: &[u8], window: &[u8], gref: u32) -> Option<u32>
 }
 
 // Whether the word of reference g has its writable bit.
+#[tactic(auto, using(crate::proofs::Grant::word_in), unfolding(crate::specs::Grant::writable, crate::specs::Grant::word_bits))]
 fn is_writable(grants: &[u8], gref: u32) -> bool
     requires { has_word grants.now gref ≡ true }
     ensures { result ≡ writable grants.now gref }
@@ -76,6 +81,7 @@ fn is_writable(grants: &[u8], gref: u32) -> bool
 }
 
 // Whether reference g grants the whole of its page. A range that lies in the page and is as long starts with it.
+#[tactic(auto, using(crate::proofs::Grant::whole_length))]
 fn is_whole(grants: &[u8], gref: u32) -> bool
     requires { (has_word grants.now gref ≡ true) × (range_end grants.now gref ≤ 4096) }
     ensures { result ≡ whole_page grants.now gref }
@@ -84,6 +90,7 @@ fn is_whole(grants: &[u8], gref: u32) -> bool
 }
 
 // The page that reference g names, if the grant is fit for receive.
+#[tactic(auto, using(crate::proofs::Grant::read_fit, crate::proofs::Grant::read_unfit, crate::proofs::Grant::fit_word, crate::proofs::Grant::fit_range), unfolding(crate::specs::Lookup::write_page, crate::specs::Grant::fit_receive))]
 pub fn fit_to_write(grants: &[u8], window: &[u8], gref: u32) -> Option<u32>
     ensures { result ≡ write_page grants.now window.now gref }
 {
@@ -97,7 +104,14 @@ pub fn fit_to_write(grants: &[u8], window: &[u8], gref: u32) -> Option<u32>
 
 // The page of a slot's part, size bytes from an offset of the page that reference g grants, if the grant is fit and its range
 // has the part.
-pub fn source_of(grants: &[u8], window: &[u8], gref: u32, offset: u16, size: u16) -> Result<u32, Unlent>
+#[tactic(auto, using(crate::proofs::Grant::read_fit, crate::proofs::Grant::read_unfit, crate::proofs::Grant::fit_word, crate::proofs::Grant::source_before, crate::proofs::Grant::source_behind, crate::proofs::Grant::source_at, crate::proofs::Grant::source_unfit))]
+pub fn source_of(
+    grants: &[u8],
+    window: &[u8],
+    gref: u32,
+    offset: u16,
+    size: u16,
+) -> Result<u32, Unlent>
     ensures { result ≡ source_of grants.now window.now gref offset size }
 {
     let page = fit_to_read(grants, window, gref).ok_or(Unlent::Unfit)?;
@@ -112,6 +126,7 @@ pub fn source_of(grants: &[u8], window: &[u8], gref: u32, offset: u16, size: u16
 
 // The lookup: the part of the window itself that a slot names, size bytes from an offset of a page. It lies within every grant by
 // which the page was found: between start and end of the range, and a part of what the grant covers.
+#[tactic(auto, using(crate::proofs::Grant::looked_up), unfolding(crate::specs::Grant::page_part))]
 pub fn lookup(window: &[u8], page: u32, offset: u16, size: u16) -> &[u8]
     requires { (4096 * page + 4096 ≤ length window.now) × (offset + size ≤ 4096) }
     ensures { LookedUp window.now page offset size result.now }
@@ -122,6 +137,7 @@ pub fn lookup(window: &[u8], page: u32, offset: u16, size: u16) -> &[u8]
 }
 
 // Writes bytes at offset 0 of a page of the window.
+#[tactic(auto, using(words::proofs::Word::part_written), unfolding(crate::specs::Grant::with_page))]
 pub fn write(window: &mut [u8], page: u32, bytes: &[u8])
     requires { (4096 * page + 4096 ≤ length window.old) × (length bytes.now ≤ 4096) }
     ensures { window.new ≡ with_page window.old page bytes.now }
