@@ -3,7 +3,7 @@
 use mathlib.Core.Path.{◌≡◌, refl, sym, ap, ◌∙◌}
 use mathlib.Core.List.{List, [], ◌∷◌, ◌++◌, map, map-append}
 use mathlib.Core.Bool.{Bool, true, false}
-use Prim.Native.Nat.{ℕ, ◌+◌, ◌-◌, ◌<◌}
+use Prim.Native.Nat.{ℕ, zero, suc, ◌+◌, ◌-◌, ◌≤◌, ◌<◌}
 use native.Mathlib.Nat.{add_assoc}
 use native.Mathlib.Omega.{arith}
 use native.Mathlib.Numerals.{add-one}
@@ -74,11 +74,13 @@ module _ (page : List ℕ) (first posted : ℕ) where
   slot_here : (n i : ℕ) → i < posted → n ≡ wadd first i → get_or (transmit_slots page first posted) i [] ≡ transmit_slot page n
   slot_here n i k h = slots_at 12 256 page posted first i k ∙ sym (slot_ahead 12 256 refl page first n i h)
 
-  pub gso_size_next : (n e : ℕ) → e + 1 < posted → n ≡ wadd first (e + 1) → gso_size_of (e + 1) (transmit_slots page first posted) ≡ gso_size (transmit_slot page n)
-  gso_size_next n e k h = rw add-one (ap gso_size (rw add-one at (slot_here n (e + 1) k h)))
+  pub gso_size_here : (n e : ℕ) → 1 ≤ e → e < posted → n ≡ wadd first e → gso_size_of e (transmit_slots page first posted) ≡ gso_size (transmit_slot page n)
+  gso_size_here n zero s k h = absurd (omega arith)
+  gso_size_here n (suc e) s k h = ap gso_size (slot_here n (suc e) k h)
 
-  pub gso_type_next : (n e : ℕ) → e + 1 < posted → n ≡ wadd first (e + 1) → gso_type_of (e + 1) (transmit_slots page first posted) ≡ gso_type (transmit_slot page n)
-  gso_type_next n e k h = rw add-one (ap gso_type (rw add-one at (slot_here n (e + 1) k h)))
+  pub gso_type_here : (n e : ℕ) → 1 ≤ e → e < posted → n ≡ wadd first e → gso_type_of e (transmit_slots page first posted) ≡ gso_type (transmit_slot page n)
+  gso_type_here n zero s k h = absurd (omega arith)
+  gso_type_here n (suc e) s k h = ap gso_type (slot_here n (suc e) k h)
 
 -- ---- the later data slots' sizes
 

@@ -56,8 +56,8 @@ module _ (page : List ℕ) (first posted : ℕ) where
   after_extras x m r h e = record { few = e.few; limit = e.limit; rest = h ∙ e.rest m; gso_size = e.gso_size; gso_type = e.gso_type }
 
   -- where none is announced, there are none
-  pub no_extras : 1 ≤ posted → AllExtras page first posted false (record { count = 0; gso_size = 0; gso_type = 0 })
-  no_extras h = record { few = h; limit = within_one; rest = λ more. refl; gso_size = refl; gso_type = refl }
+  pub no_extras : (x : Bool) → x ≡ false → 1 ≤ posted → AllExtras page first posted x (record { count = 0; gso_size = 0; gso_type = 0 })
+  no_extras x n h = record { few = h; limit = within_one; rest = λ more. ap (λ b. scan (behind page first posted 1) 1 0 b more) n; gso_size = refl; gso_type = refl }
 
   -- ---- a packet of k later data slots and e extras
 

@@ -1,7 +1,7 @@
 -- The laws of the limit. Nothing else opens `within`.
 use mathlib.Core.Path.{◌≡◌, refl}
 use mathlib.Core.Bool.{Bool, true, false}
-use Prim.Native.Nat.{ℕ, ◌+◌, ◌≤◌}
+use Prim.Native.Nat.{ℕ, ◌+◌, ◌≤◌, ◌<◌}
 use native.Mathlib.Omega.{arith}
 use lib.Dec.{leb}
 use borrow.Author.Tests.{leb-true, le-leb}
@@ -27,6 +27,22 @@ within_bound d e w = omega (arith, within_datas d e w, within_extras d e w)
 pub within_most : (d e : ℕ) → d ≤ 18 → e ≤ 4 → within d e ≡ true
 unfolding within
 within_most d e p q = rw (le-leb d 18 p, le-leb e 4 q)
+
+-- more extras are not
+pub within_over_extras : (d e : ℕ) → 4 < e → within d e ≡ false
+within_over_extras d e h = go (within d e) refl
+  where
+    go : (b : Bool) → within d e ≡ b → b ≡ false
+    go true w = absurd (omega (arith, within_extras d e w))
+    go false w = refl
+
+-- nor are more data slots
+pub within_over_datas : (d e : ℕ) → 18 < d → within d e ≡ false
+within_over_datas d e h = go (within d e) refl
+  where
+    go : (b : Bool) → within d e ≡ b → b ≡ false
+    go true w = absurd (omega (arith, within_datas d e w))
+    go false w = refl
 
 -- fewer slots are within the limit too
 pub within_down : (d e d' e' : ℕ) → within d e ≡ true → d' ≤ d → e' ≤ e → within d' e' ≡ true

@@ -1,0 +1,18 @@
+-- What the scan makes of all slots behind the extras, it makes of those that are left, behind the later data slots read so far; their
+-- sizes are in the table and in the sum.
+use mathlib.Core.Path.{◌≡◌}
+use mathlib.Core.Bool.{true, false}
+use Prim.Native.Nat.{◌+◌, ◌-◌, ◌*◌, ◌≤◌}
+use Rattle.netif.specs.Slot.{transmit_slots}
+use Rattle.grammar.specs.Divide.{scan}
+use Rattle.grammar.specs.Packet.{sizes as sizes_of}
+use Rattle.grammar.specs.Stages.{behind, SizesRead}
+use Rattle.scanning.proofs.read_later.Given as goal
+
+abbrev pub invariant-loop-count : goal.invariant-loop-count
+invariant-loop-count l = record {
+  so_far : scan (behind l.page l.first l.posted (l.extras + 1)) 1 l.extras false l.announced ≡ scan (behind l.page l.first l.posted (l.count + l.extras)) l.count l.extras false true;
+  read : SizesRead l.page l.first l.posted l.extras l.initial.sizes l.sizes (l.count - 1);
+  sum : l.sum ≡ sizes_of (transmit_slots l.page (l.first + (l.extras + 1)) (l.count - 1));
+  small : l.sum ≤ 65535 * (l.count - 1);
+}
