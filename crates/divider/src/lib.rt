@@ -1,17 +1,18 @@
 // Where the packet at the front of a transmit ring ends, and what is to be known of it.
 #![tactic(auto)]
 
-ghost use Rattle.std.specs.Prelude.{◌≡◌, ◌≤◌, length};
-ghost use Rattle.ring.specs.Ring.{page_size};
+ghost use Rattle.std.specs.Prelude.{◌≡◌, ◌≤◌};
 ghost use Rattle.netif.specs.Slot.{transmit_slot, transmit_slots};
 ghost use Rattle.grammar.specs.Divide.{alone};
 ghost use Rattle.grammar.specs.Stages.{FrontRead, AfterExtras};
 
 use grammar::{Extras, Outline, Unfinished};
 use netif::DataSlot;
+use ring::Page;
 
 // Whether the first slot is a packet by itself: it announces neither an extra nor more data.
-pub fn is_alone(page: &[u8; 4096], first: u32) -> bool
+#[tactic(auto, unfolding(grammar::specs::Divide::alone, netif::specs::Slot::more_data, netif::specs::Slot::extra_follows, netif::specs::Decode::data_of))]
+pub fn is_alone(page: &Page, first: u32) -> bool
     ensures { result ≡ alone (transmit_slot page.now first) }
 {
     let slot = ring::read::<DataSlot>(page, first);
@@ -20,7 +21,7 @@ pub fn is_alone(page: &[u8; 4096], first: u32) -> bool
 
 // The packet whose extras were read. The first slot's fields are read when all slots are there: a waiting packet needs its flags only.
 fn read_rest(
-    page: &[u8; 4096],
+    page: &Page,
     first: u32,
     posted: u32,
     extras: Extras,
@@ -44,7 +45,7 @@ fn read_rest(
 // What stands at the front of the slots posted from counter first on. Of a whole packet the table gets the later data slots'
 // sizes, from the place 1 on. Where no extra is announced the rest is read by a call of its own, with zeros that the compiler knows.
 pub fn read(
-    page: &[u8; 4096],
+    page: &Page,
     first: u32,
     posted: u32,
     sizes: &mut [u16; 18],

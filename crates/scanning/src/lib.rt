@@ -1,13 +1,13 @@
 // What stands behind the first slot of a packet on a transmit ring: its extras, and its later data slots, each within the limit.
 #![tactic(auto)]
 
-ghost use Rattle.std.specs.Prelude.{◌≡◌, true, ◌+◌, ◌≤◌, length};
-ghost use Rattle.ring.specs.Ring.{page_size};
+ghost use Rattle.std.specs.Prelude.{◌≡◌, true, ◌+◌, ◌≤◌};
 ghost use Rattle.grammar.specs.Grammar.{within};
 ghost use Rattle.grammar.specs.Stages.{ExtrasRead, LaterRead};
 
 use grammar::{Extras, Later, Unfinished};
 use netif::{DataSlot, Extra};
+use ring::Page;
 
 // The most data slots of a packet, and the most extras.
 const MOST_DATA_SLOTS: u32 = 18;
@@ -16,7 +16,7 @@ const MOST_EXTRAS: u32 = 4;
 
 // The extras behind the first slot, if it announced any. A data slot that is still owed makes no difference to the limit.
 pub fn read_extras(
-    page: &[u8; 4096],
+    page: &Page,
     first: u32,
     posted: u32,
     announced: bool,
@@ -49,7 +49,7 @@ pub fn read_extras(
 // The data slots behind the extras, if the first slot announced any. Each one's size goes into the table as it is added up, so
 // that it is read once; the place 0 is the first slot's.
 pub fn read_later(
-    page: &[u8; 4096],
+    page: &Page,
     first: u32,
     posted: u32,
     extras: u32,

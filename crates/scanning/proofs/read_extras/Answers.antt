@@ -58,12 +58,12 @@ pub returns-then-extra-ne-GSO : goal.returns-then-extra-ne-GSO
 returns-then-extra-ne-GSO c = let a = c.args in
     let l = c.loop-count in
     bad a.page.now a.first a.posted l.count a.announced l.invariant.so_far l.auto.count (omega arith) _ (omega arith) c.ahead.ensures
-    (kind_other _ c.at-extra.result c.at-extra.ensures c.if-extra-ne-GSO.true)
+    (kind_other _ c.read-extra.result c.read-extra.ensures c.if-extra-ne-GSO.true)
 
 pub returns-then-not-another_follows : goal.returns-then-not-another_follows
 returns-then-not-another_follows c = let a = c.args in
     let l = c.loop-count in
-    let extra = c.at-extra in
+    let extra = c.read-extra in
     record {
       few = omega arith;
       limit = within_most 1 l.count (omega arith) (omega arith);
@@ -77,7 +77,7 @@ returns-then-not-another_follows c = let a = c.args in
 pub loop-count-preserved : goal.loop-count-preserved
 loop-count-preserved c = let a = c.args in
     let l = c.loop-count in
-    let extra = c.at-extra in
+    let extra = c.read-extra in
     record {
       so_far = scanned_on a.page.now a.first a.posted l.count a.announced l.invariant.so_far l.auto.count (omega arith) _ (omega arith) c.ahead.ensures
           (kind_extra _ extra.result extra.ensures c.if-extra-ne-GSO.false)

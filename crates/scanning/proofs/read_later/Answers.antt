@@ -103,22 +103,22 @@ pub returns-then-extra_follows : goal.returns-then-extra_follows
 returns-then-extra_follows c = let a = c.args in
     let l = c.loop-count in (
       bad a.page.now a.first a.posted a.extras l.count _ l.invariant.so_far (allowed (goal.at.returns-then-extra_follows c).In-loop-count) _ (omega arith) c.ahead.ensures
-          (sym (follows_bit _ c.at-slot.result c.at-slot.ensures) ∙ sym c.extra_follows.ensures ∙ c.if-extra_follows.true),
+          (sym (follows_bit _ c.read-slot.result c.read-slot.ensures) ∙ sym c.extra_follows.ensures ∙ c.if-extra_follows.true),
       (l.count - 1, l.invariant.read),
     )
 
 -- a later data slot was read
 module _ (c : After-more_data) where
-  its_size : c.at-slot.result.size ≡ size (transmit_slot c.args.page.now c.ahead.result)
-  its_size = size_field _ c.at-slot.result c.at-slot.ensures
+  its_size : c.read-slot.result.size ≡ size (transmit_slot c.args.page.now c.ahead.result)
+  its_size = size_field _ c.read-slot.result c.read-slot.ensures
 
   scanned : within (c.loop-count.count + 1) c.args.extras ≡ true → {b : Bool} → c.more_data.result ≡ b
       → scan (behind c.args.page.now c.args.first c.args.posted (c.args.extras + 1)) 1 c.args.extras false c.args.announced
       ≡ scan (behind c.args.page.now c.args.first c.args.posted (c.loop-count.count + 1 + c.args.extras)) (c.loop-count.count + 1) c.args.extras false b
   scanned right more =
       scanned_on c.args.page.now c.args.first c.args.posted c.args.extras c.loop-count.count _ c.loop-count.invariant.so_far right _ (omega arith) c.ahead.ensures
-      (sym (follows_bit _ c.at-slot.result c.at-slot.ensures) ∙ sym c.extra_follows.ensures ∙ c.if-extra_follows.false)
-      (sym (more_bit _ c.at-slot.result c.at-slot.ensures) ∙ sym c.more_data.ensures ∙ more)
+      (sym (follows_bit _ c.read-slot.result c.read-slot.ensures) ∙ sym c.extra_follows.ensures ∙ c.if-extra_follows.false)
+      (sym (more_bit _ c.read-slot.result c.read-slot.ensures) ∙ sym c.more_data.ensures ∙ more)
 
   summed : (e : ℕ) → c.loop-count.count ≡ e
       → c.loop-count.sum + c.from-sum.result ≡ sizes_of (transmit_slots c.args.page.now (c.args.first + (c.args.extras + 1)) e)
@@ -127,7 +127,7 @@ module _ (c : After-more_data) where
       ∙ added c.args.page.now c.args.first c.args.posted c.args.extras c.loop-count.count _ c.loop-count.auto.count c.ahead.ensures _ (c.from-sum.ensures ∙ its_size) e is
 
   stored : (e : ℕ) → c.loop-count.count ≡ e
-      → SizesRead c.args.page.now c.args.first c.args.posted c.args.extras c.args.sizes.now (set c.loop-count.sizes c.loop-count.count c.at-slot.result.size) e
+      → SizesRead c.args.page.now c.args.first c.args.posted c.args.extras c.args.sizes.now (set c.loop-count.sizes c.loop-count.count c.read-slot.result.size) e
   stored e is =
       entered c.args.page.now c.args.first c.args.posted c.args.extras c.loop-count.count _ c.loop-count.auto.count c.ahead.ensures _ its_size (omega arith) (omega arith) _ _ c.told-sizes
       c.loop-count.invariant.read e is
