@@ -27,7 +27,7 @@ pub fn read_extras(
     if !announced {
         return Ok(Extras::NONE);
     }
-    for count in 1..MOST_EXTRAS + 1 {
+    for count in 1..=MOST_EXTRAS {
         if count == posted {
             return Err(Unfinished::Beginning);
         }
