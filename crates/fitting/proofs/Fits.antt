@@ -1,11 +1,11 @@
 -- What a record that fits says, and the ways out of the tests.
-use Rattle.std.proofs.Common.{◌≡◌, ℕ, ◌+◌, ◌-◌, ◌%◌, ◌<◌, ◌≤◌, Bool, true, false, cond, ◌&&◌, eqb, ltb, leb, refl, ⊎_elim, arith, ltb-true, le-ltb, lt-ltb, eq-eqb, ne_eqb, eqb-true, le-leb, leb-true}
+use Rattle.std.proofs.Common.{◌≡◌, ℕ, ◌+◌, ◌-◌, ◌%◌, ◌<◌, ◌≤◌, Bool, true, false, cond, not, ◌&&◌, eqb, ltb, leb, sym, refl, ap, ◌∙◌, ⊎_elim, arith, ltb-true, le-ltb, lt-ltb, eq-eqb, ne_eqb, eqb-true, le-leb, leb-true}
 use borrow.Author.Tests.{lt-leb}
-use Rattle.words.proofs.Word.{and_both, lt_or_ge}
+use Rattle.words.proofs.Word.{and_both, lt_or_ge, clash}
 use Rattle.grammar.specs.Grammar.{within}
 use Rattle.grammar.proofs.Within.{within_bound}
 use Rattle.held.specs.declared.Held.{Held}
-use Rattle.held.specs.Records.{is_status, failed, dropped}
+use Rattle.held.specs.Records.{is_status, is_finished}
 use Rattle.held.specs.Valid.{is_count}
 use Rattle.fitting.specs.Fits.{fits_at}
 
@@ -57,21 +57,9 @@ module _ (h : Held) (o n : ℕ) where
 
   -- ---- the tests, in their order
 
-  pub fits_long : n < o + h.slots → false ≡ fits_at h o n
-  unfolding fits_at
-  fits_long a = rw (lt-leb (o + h.slots) n a, and_no (ltb o n)) refl
-
-  pub fits_count : is_count h.slots h.extras ≡ false → false ≡ fits_at h o n
-  unfolding fits_at
-  fits_count c = rw (c, and_no (leb (o + h.slots) n), and_no (ltb o n)) refl
-
   module _ (b : o + h.slots ≤ n) (c : is_count h.slots h.extras ≡ true) where
     below : o < n
     below = omega (arith, b, count_some h.slots h.extras c)
-
-    pub fits_status : is_status h.status ≡ false → false ≡ fits_at h o n
-    unfolding fits_at
-    fits_status d = rw (lt-ltb o n below, le-leb (o + h.slots) n b, c, d) refl
 
     module _ (d : is_status h.status ≡ true) where
       pub fits_oldest : o ≡ 0 → eqb h.finished 0 ≡ fits_at h o n
@@ -82,32 +70,50 @@ module _ (h : Held) (o n : ℕ) where
       unfolding fits_at
       fits_later e = rw (lt-ltb o n below, le-leb (o + h.slots) n b, c, d, ne_eqb o 0 e) refl
 
--- ---- a status, and counts
+  -- whether it lies within the slots and has a packet's counts, and whether it also has one of the three statuses
+  pub fits_tests : (lies sound : Bool) → lies ≡ (leb (o + h.slots) n && is_count h.slots h.extras) → sound ≡ (lies && is_status h.status)
+      → sound && waits h o ≡ fits_at h o n
+  unfolding fits_at
+  fits_tests lies sound p q = ap (λ (b : Bool). b && waits h o) q ∙ go lies p
+    where
+      short : (a c : Bool) → false ≡ a && c → false ≡ (ltb o n && (a && (c && (is_status h.status && waits h o))))
+      short false c e = sym (and_no (ltb o n))
+      short true false e = sym (and_no (ltb o n))
+      short true true e = absurd (clash refl (sym e))
 
-pub status_okay : (x : ℕ) → x ≡ 0 → true ≡ is_status x
-status_okay x a = rw (eq-eqb x 0 a) refl
+      go : (b : Bool) → b ≡ (leb (o + h.slots) n && is_count h.slots h.extras) → (b && is_status h.status) && waits h o ≡ fits_at h o n
+      go true e =
+          let (a, c) = and_both (leb (o + h.slots) n) (is_count h.slots h.extras) (sym e) in
+          let z : ltb o n ≡ true = lt-ltb o n (below (leb-true (o + h.slots) n a) c) in
+          rw (z, a, c) refl
+      go false e = short (leb (o + h.slots) n) (is_count h.slots h.extras) e
 
-pub status_error : (x : ℕ) → (x ≡ 0 → ⊥) → x ≡ failed → true ≡ is_status x
-status_error x a b = rw (ne_eqb x 0 a, eq-eqb x failed b) refl
+pub not_finished : (h : Held) → not (is_finished h) ≡ eqb h.finished 0
+unfolding is_finished
+not_finished h = twice (eqb h.finished 0)
+  where
+    twice : (b : Bool) → not (not b) ≡ b
+    twice true = refl
+    twice false = refl
 
-pub status_dropped : (x : ℕ) → (x ≡ 0 → ⊥) → (x ≡ failed → ⊥) → eqb x dropped ≡ is_status x
-status_dropped x a b = rw (ne_eqb x 0 a, ne_eqb x failed b) refl
+-- ---- counts
 
 pub count_many : (slots extras : ℕ) → 4 < extras → false ≡ is_count slots extras
 unfolding is_count within
 count_many slots extras a = rw (lt-leb extras 4 a, and_no (leb (slots - extras) 18), and_no (ltb extras slots)) refl
 
--- d: the data slots but one, modulo 2^32
-pub count_few : (slots extras d : ℕ) → extras ≤ 4 → d < 4294967296 → (d + (extras + 1)) % 4294967296 ≡ slots → ltb d 18 ≡ is_count slots extras
+-- the data slots but one, modulo 2^32, are below the limit
+pub count_few : (slots extras : ℕ) → extras ≤ 4 → slots < 4294967296 → ltb ((slots + (4294967296 - (extras + 1))) % 4294967296) 18 ≡ is_count slots extras
 unfolding is_count within
-count_few slots extras d few small difference = ⊎_elim below above (lt_or_ge d 18)
+count_few slots extras few small = ⊎_elim some none (lt_or_ge extras slots)
   where
-    below : d < 18 → ltb d 18 ≡ (ltb extras slots && (leb (slots - extras) 18 && leb extras 4))
-    below a = rw (lt-ltb d 18 a, lt-ltb extras slots (omega (arith, difference)), le-leb (slots - extras) 18 (omega (arith, difference)), le-leb extras 4 few) refl
-
-    above : 18 ≤ d → ltb d 18 ≡ (ltb extras slots && (leb (slots - extras) 18 && leb extras 4))
-    above a =
+    some : extras < slots → ltb ((slots + (4294967296 - (extras + 1))) % 4294967296) 18 ≡ (ltb extras slots && (leb (slots - extras) 18 && leb extras 4))
+    some p =
+        let d : (slots + (4294967296 - (extras + 1))) % 4294967296 ≡ slots - extras - 1 = omega arith in
         ⊎_elim
-        (λ p. rw (le-ltb d 18 a, lt-ltb extras slots p, lt-leb (slots - extras) 18 (omega (arith, difference, small, a, p))) refl)
-        (λ q. rw (le-ltb d 18 a, le-ltb extras slots q) refl)
-        (lt_or_ge extras slots)
+        (λ a. rw (d, lt-ltb (slots - extras - 1) 18 (omega arith), lt-ltb extras slots p, le-leb (slots - extras) 18 (omega arith), le-leb extras 4 few) refl)
+        (λ a. rw (d, le-ltb (slots - extras - 1) 18 (omega arith), lt-ltb extras slots p, lt-leb (slots - extras) 18 (omega arith)) refl)
+        (lt_or_ge (slots - extras) 19)
+
+    none : slots ≤ extras → ltb ((slots + (4294967296 - (extras + 1))) % 4294967296) 18 ≡ (ltb extras slots && (leb (slots - extras) 18 && leb extras 4))
+    none q = rw (le-ltb ((slots + (4294967296 - (extras + 1))) % 4294967296) 18 (omega arith), le-ltb extras slots q) refl

@@ -6,3 +6,4 @@ pub mod Spoiling
 pub mod Counts
 pub mod Slots
 pub mod Walk
+pub mod Offsets

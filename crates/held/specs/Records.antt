@@ -1,6 +1,6 @@
 -- Request 3, the records of held packets: `Held` in src/lib.rt is one, and a list of them is lent. What a record says, and how a list is changed:
 -- a packet is added, finished, and freed when its replies leave.
-use Rattle.std.specs.Prelude.{List, Bool, not, ◌&&◌, ◌||◌, ℕ, get_or, set, eqb}
+use Rattle.std.specs.Prelude.{List, Bool, cond, not, ◌&&◌, ◌||◌, ℕ, Option, None, Some, get_or, set, eqb}
 use Rattle.words.specs.Lists.{all, place_of, sum_of}
 use Rattle.netif.specs.Slot.{okay}
 use Rattle.held.specs.declared.Held.{Held}
@@ -55,6 +55,10 @@ ended ticket slots extras status = record { ticket = ticket; slots = slots; extr
 -- the first free record is taken for a packet
 unfoldable pub first_free : List Held → ℕ
 first_free l = place_of (λ r. not (in_use r)) l
+
+-- its place, if there is one
+unfoldable pub vacancy : List Held → Option ℕ
+vacancy l = cond (full l) None (Some (first_free l))
 
 unfoldable pub added : List Held → Held → List Held
 added l r = set l (first_free l) r

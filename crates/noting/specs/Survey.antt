@@ -1,6 +1,7 @@
 -- The code's way to an inspection, in linear time: a pass over the records that enters each held one in the index and adds up their slots, and a
 -- walk along the index. `proofs/Judging.antt` has it that both succeed exactly if the list is valid.
-use Rattle.std.specs.Prelude.{ℕ, zero, suc, ◌+◌, ◌*◌, ◌/◌, Bool, true, false, cond, ◌&&◌, List, [], ◌∷◌, ◌==◌, nat_le, nat_lt, slice_index, slice_set}
+use Rattle.std.specs.Prelude.{ℕ, Option, None, Some, zero, suc, ◌+◌, ◌*◌, ◌/◌, Bool, true, false, cond, ◌&&◌, List, [], ◌∷◌, ◌==◌, nat_le, nat_lt, slice_index, slice_set}
+use Rattle.core.specs.Option.{option_or}
 use Rattle.ring.specs.Ring.{wsub}
 use Rattle.netif.specs.Slot.{slot_count}
 use Rattle.held.specs.declared.Held.{Held}
@@ -12,54 +13,55 @@ use Rattle.noting.specs.declared.Tally.{Tally}
 abbrev pub within_limits : (records slots : ℕ) → Bool
 within_limits records slots = nat_le records most_records && nat_le slots slot_count
 
--- a tally and an index
+-- a tally, none of a list that is refused; and an index
 pub record Found : Type 0 where
-  pub tally : Tally
+  pub tally : Option Tally
   pub index : List ℕ
 
-abbrev pub made : Tally → List ℕ → Found
+abbrev pub made : Option Tally → List ℕ → Found
 made t index = record { tally = t; index = index }
+
+-- the place of the first free record, if the list is not refused and one is free
+abbrev pub free_in : Option Tally → Option ℕ
+free_in None = None
+free_in (Some s) = s.free
 
 -- ---- a pass over the records
 
--- before the first record, and of a list that is refused unread
-abbrev pub unread : Bool → Tally
-unread good = record { good = good; full = true; free = 0; slots = 0 }
-
-unfoldable pub refusing : Tally → Tally
-refusing s = record { good = false; full = s.full; free = s.free; slots = s.slots }
+-- before the first record
+abbrev pub unread : Tally
+unread = record { free = None; slots = 0 }
 
 -- a free record at place i: noted if it is the first
-unfoldable pub noted_free : ℕ → Found → Found
-noted_free i f =
-    cond f.tally.full
-    (made (record { good = f.tally.good; full = false; free = i; slots = f.tally.slots }) f.index)
-    f
+unfoldable pub noted_free : ℕ → Tally → Tally
+noted_free i s = record { free = option_or s.free (Some i); slots = s.slots }
 
 -- a held one: its slots and its place are entered at its offset
-unfoldable pub noted_held : ℕ → Held → (offset : ℕ) → Found → Found
-noted_held i h o f =
-    made (record { good = f.tally.good; full = f.tally.full; free = f.tally.free; slots = f.tally.slots + h.slots })
-    (slice_set f.index o (h.slots * 256 + i))
+unfoldable pub noted_held : ℕ → Held → (offset : ℕ) → Tally → List ℕ → Found
+noted_held i h o s index =
+    made (Some (record { free = s.free; slots = s.slots + h.slots }))
+    (slice_set index o (h.slots * 256 + i))
 
 -- one that does not fit, or is held at an offset where another is: refused
-unfoldable pub noted_bad : Found → Found
-noted_bad f = made (refusing f.tally) f.index
+unfoldable pub noted : ℕ → Held → (replied n : ℕ) → Tally → List ℕ → Found
+noted i h replied n s index =
+    cond (h.slots == 0) (made (Some (noted_free i s)) index)
+    (cond (fits_at h (wsub h.ticket replied) n && slice_index index (wsub h.ticket replied) == 0)
+    (noted_held i h (wsub h.ticket replied) s index)
+    (made None index))
 
-unfoldable pub noted : ℕ → Held → (replied n : ℕ) → Found → Found
-noted i h replied n f =
-    cond (h.slots == 0) (noted_free i f)
-    (cond (fits_at h (wsub h.ticket replied) n && slice_index f.index (wsub h.ticket replied) == 0)
-    (noted_held i h (wsub h.ticket replied) f)
-    (noted_bad f))
+-- no more is noted of a list that is refused
+abbrev pub noted_on : ℕ → Held → (replied n : ℕ) → Option Tally → List ℕ → Found
+noted_on i h replied n None index = made None index
+noted_on i h replied n (Some s) index = noted i h replied n s index
 
 -- the records from place i on
 abbrev pub noted_from : ℕ → List Held → (replied n : ℕ) → Found → Found
 noted_from i [] replied n f = f
-noted_from i (h ∷ l) replied n f = noted_from (suc i) l replied n (noted i h replied n f)
+noted_from i (h ∷ l) replied n f = noted_from (suc i) l replied n (noted_on i h replied n f.tally f.index)
 
 unfoldable pub surveyed : List Held → (replied n : ℕ) → (index : List ℕ) → Found
-surveyed l replied n index = noted_from 0 l replied n (made (unread true) index)
+surveyed l replied n index = noted_from 0 l replied n (made (Some unread) index)
 
 -- ---- the walk along the index
 
@@ -75,5 +77,5 @@ unfoldable pub chain_of : List ℕ → (n : ℕ) → Bool
 chain_of index n = chained 256 index n 0
 
 -- as many slots are held as lie between the counters, and the walk finds no gap: each of these is held once
-unfoldable pub confirmed : Tally → List ℕ → (n : ℕ) → Tally
-confirmed s index n = cond (s.slots == n && chain_of index n) s (refusing s)
+unfoldable pub confirmed : Tally → List ℕ → (n : ℕ) → Option Tally
+confirmed s index n = cond (s.slots == n && chain_of index n) (Some s) None

@@ -1,23 +1,90 @@
 // The tally and the index that an inspection of held packets makes: one record noted in both, and the walk along the index.
 #![tactic(auto)]
 
-ghost use Rattle.std.specs.Prelude.{◌≡◌, ◌%◌, ◌<◌, ◌≤◌, slice_index};
-ghost use Rattle.noting.specs.Survey.{within_limits, made, unread, refusing, noted, chain_of, confirmed};
+ghost use Rattle.std.specs.Prelude.{◌≡◌, ◌+◌, ◌*◌, ◌/◌, ◌%◌, ◌<◌, ◌≤◌, ◌==◌, ℕ, List, Option, not, replicate, slice_index, slice_set};
+ghost use Rattle.noting.specs.Survey.{within_limits, made, unread, noted, chain_of, confirmed, free_in};
 
-use held::Held;
-
-const MOST_RECORDS: usize = 256;
+use held::{Held, MOST_RECORDS};
+use std::marker::Model;
 
 const MOST_SLOTS: u32 = 256;
 
-// What is found of a list: whether it is valid; whether all its records are in use, and else the place of the first free one; and the slots that
-// are held.
+// What is found of a list that is valid, as far as it is looked at: the place of its first free record, if one is free, and the slots that are held.
 #[derive(Clone, Copy)]
 pub struct Tally {
-    pub good: bool,
-    pub full: bool,
-    pub free: u32,
+    pub free: Option<usize>,
     pub slots: u32,
+}
+
+// The records of a list by their offsets behind the counter of replies sent. An entry is the record's slots * 256 + its place, and 0 where none is
+// held: one number, since an array of structs would be longer to clear.
+pub struct Index {
+    entries: [u16; 256],
+}
+
+impl Model for Index {
+    ghost Value = { List ℕ };
+
+    ghost view = { λ i. i.entries };
+}
+
+impl Index {
+    // An index of no records.
+    pub fn new() -> Index
+        ensures { result ≡ replicate 256 0 }
+    {
+        Index { entries: [0; 256] }
+    }
+
+    // Whether a record is held at an offset.
+    pub fn holds(&self, offset: u32) -> bool
+        requires { offset < 256 }
+        ensures { result ≡ not (slice_index self.now offset == 0) }
+    {
+        self.entries[offset as usize] != 0
+    }
+
+    // The place of the record that is held at an offset.
+    pub fn place(&self, offset: u32) -> usize
+        requires { offset < 256 }
+        ensures { result ≡ slice_index self.now offset % 256 }
+    {
+        self.entries[offset as usize] as usize % 256
+    }
+
+    // The slots of the record that is held at an offset; none where none is held.
+    fn slots(&self, offset: u32) -> u32
+        requires { offset < 256 }
+        ensures value { result ≡ slice_index self.now offset / 256 }
+        ensures few { result < 256 }
+    {
+        self.entries[offset as usize] as u32 / 256
+    }
+
+    // Enters a record that is held at an offset.
+    fn enter(&mut self, offset: u32, slots: u32, place: usize)
+        requires { (offset < 256) × (slots < 256) × (place < 256) }
+        ensures { self.new ≡ slice_set self.old offset (slots * 256 + place) }
+    {
+        self.entries[offset as usize] = (slots as usize * 256 + place) as u16;
+    }
+
+    // Whether a record begins at the oldest slot, and each further one where the one before ends, up to the last slot.
+    fn chain(&self, between: u32) -> bool
+        requires { between ≤ 256 }
+        ensures { result ≡ chain_of self.now between }
+    {
+        // Counted by hand: a step is as long as the record there has slots.
+        let mut offset = 0;
+        while offset < between {
+            let slots = self.slots(offset);
+            if slots == 0 {
+                return false;
+            }
+            offset += slots;
+        }
+        true
+    }
 }
 
 // Whether a list has at most 256 records, and at most 256 slots lie between the counters.
@@ -27,105 +94,62 @@ pub fn within_limits(records: usize, slots: u32) -> bool
     records <= MOST_RECORDS && slots <= MOST_SLOTS
 }
 
-// A tally of no records.
-pub fn unread(good: bool) -> Tally
-    ensures { result ≡ unread good }
+// The place of the first free record of a list, if it is valid and one is free.
+pub fn free_in(found: Option<Tally>) -> Option<usize>
+    ensures { result ≡ free_in found }
 {
-    Tally {
-        good,
-        full: true,
-        free: 0,
-        slots: 0,
-    }
+    found?.free
 }
 
-// A tally of a list that is refused.
-fn refuse(s: Tally) -> Tally
-    ensures { result ≡ refusing s }
-{
-    Tally {
-        good: false,
-        full: s.full,
-        free: s.free,
-        slots: s.slots,
-    }
-}
-
-// Enters the record at place i in the index and in the tally. A second one at an offset, and one that does not fit, is refused.
-pub fn note(s: Tally, i: u32, h: Held, replied: u32, between: u32, index: &mut [u16; 256]) -> Tally
-    requires { (s.slots ≤ 5632) × (i < 256) × (between ≤ 256) }
-    ensures { made result index.new ≡ noted i h replied between (made s index.old) }
-{
-    if h.slots == 0 {
-        if s.full {
-            return Tally {
-                good: s.good,
-                full: false,
-                free: i,
-                slots: s.slots,
-            };
+impl Tally {
+    // A tally of no records.
+    pub fn new() -> Tally
+        ensures { result ≡ unread }
+    {
+        Tally {
+            free: None,
+            slots: 0,
         }
-        return s;
     }
-    let offset = std::num::wrapping_sub_u32(h.ticket, replied);
-    if !fitting::fits_at(h, offset, between) {
-        return refuse(s);
-    }
-    let at = offset as usize;
-    if index[at] != 0 {
-        return refuse(s);
-    }
-    index[at] = (h.slots * 256 + i) as u16;
-    Tally {
-        good: s.good,
-        full: s.full,
-        free: s.free,
-        slots: s.slots + h.slots,
-    }
-}
 
-// The entry of the index at an offset.
-pub fn entry(index: &[u16; 256], offset: usize) -> u16
-    requires { offset < 256 }
-    ensures { result ≡ slice_index index.now offset }
-{
-    index[offset]
-}
-
-// The place of the record that is held at an offset.
-pub fn place(index: &[u16; 256], offset: u32) -> usize
-    requires { offset < 256 }
-    ensures { result ≡ slice_index index.now offset % 256 }
-{
-    (entry(index, offset as usize) % 256) as usize
-}
-
-// Whether a record begins at the oldest slot, and each further one where the one before ends, up to the last slot.
-fn chain(index: &[u16; 256], between: u32) -> bool
-    requires { between ≤ 256 }
-    ensures { result ≡ chain_of index.now between }
-{
-    let mut o: usize = 0;
-    while o < between as usize {
-        let e = entry(index, o);
-        if e < 256 {
-            return false;
+    // Notes the record at place i, and enters it in the index if it is held. A second one at an offset, and one that does not fit, is refused.
+    pub fn note(
+        self,
+        i: usize,
+        h: Held,
+        replied: u32,
+        between: u32,
+        index: &mut Index,
+    ) -> Option<Tally>
+        requires { (self.slots ≤ 5632) × (i < 256) × (between ≤ 256) }
+        ensures { made result index.new ≡ noted i h replied between self index.old }
+    {
+        if h.is_free() {
+            return Some(Tally {
+                free: self.free.or(Some(i)),
+                ..self
+            });
         }
-        o += (e / 256) as usize;
+        let offset = h.ticket.wrapping_sub(replied);
+        if !fitting::fits_at(h, offset, between) || index.holds(offset) {
+            return None;
+        }
+        index.enter(offset, h.slots, i);
+        Some(Tally {
+            slots: self.slots + h.slots,
+            ..self
+        })
     }
-    true
-}
 
-// The tally of records that cover the slots between the counters, each once; else refused.
-pub fn confirm(s: Tally, index: &[u16; 256], between: u32) -> Tally
-    requires { between ≤ 256 }
-    ensures { result ≡ confirmed s index.now between }
-{
-    if s.slots != between {
-        return refuse(s);
+    // The tally, if its records cover the slots between the counters, each once.
+    pub fn confirm(self, index: &Index, between: u32) -> Option<Tally>
+        requires { between ≤ 256 }
+        ensures { result ≡ confirmed self index.now between }
+    {
+        if self.slots == between && index.chain(between) {
+            Some(self)
+        } else {
+            None
+        }
     }
-    if chain(index, between) {
-        return s;
-    }
-    refuse(s)
 }

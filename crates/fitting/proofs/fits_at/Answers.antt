@@ -1,22 +1,46 @@
--- `fits_at` meets its contract: its tests are the definition's, in their order. Each way out is one law of `Fits`.
-use Rattle.std.proofs.Common.{sym, ◌∙◌}
-use Rattle.fitting.proofs.Fits.{fits_long, fits_count, fits_status, fits_oldest, fits_later}
+-- `fits_at` meets its contract: its tests are the definition's (`fits_tests`).
+use Rattle.std.proofs.Common.{◌+◌, refl, ◌∙◌, eq-eqb, ne_eqb, le-leb}
+use borrow.Author.Tests.{lt-leb}
+use Rattle.fitting.proofs.Fits.{fits_tests, not_finished}
 use Rattle.fitting.proofs.fits_at.Goals as goal
+use Rattle.fitting.proofs.fits_at.Goals.{then-offset-h, else-offset-h, then-is_count, else-is_count}
 
-pub returns-then-between-offset : goal.returns-then-between-offset
-returns-then-between-offset c = let a = c.args in fits_long a.h a.offset a.between c.if-between-offset.true
+pub returns-then-offset-ne0 : goal.returns-then-offset-ne0
+returns-then-offset-ne0 c = let a = c.args in
+    let tests = fits_tests a.h a.offset a.between c.if-offset-h.value c.if-is_count.value
+    (elim c.if-offset-h.branch [
+      then-offset-h w ↦ rw (w.value-is, le-leb (a.offset + a.h.slots) a.between w.if-offset-h.true) w.is_count.ensures
+    | else-offset-h w ↦ rw (lt-leb (a.offset + a.h.slots) a.between w.if-offset-h.false) (w.value-is ∙ lt-leb (a.offset + a.h.slots) a.between w.if-offset-h.false)
+    ])
+    (elim c.if-is_count.branch [
+      then-is_count w ↦ rw (w.value-is, w.if-is_count.true) w.is_status.ensures
+    | else-is_count w ↦ rw (w.value-is, w.if-is_count.false) refl
+    ]) in
+    rw (ne_eqb a.offset 0 c.if-offset-ne0.true) (rw (c.if-is_status.true, ne_eqb a.offset 0 c.if-offset-ne0.true) at tests)
 
-pub returns-then-not-is_count : goal.returns-then-not-is_count
-returns-then-not-is_count c = let a = c.args in fits_count a.h a.offset a.between (sym c.is_count.ensures ∙ c.if-not-is_count.true)
+pub returns-else-offset-ne0 : goal.returns-else-offset-ne0
+returns-else-offset-ne0 c = let a = c.args in
+    let tests = fits_tests a.h a.offset a.between c.if-offset-h.value c.if-is_count.value
+    (elim c.if-offset-h.branch [
+      then-offset-h w ↦ rw (w.value-is, le-leb (a.offset + a.h.slots) a.between w.if-offset-h.true) w.is_count.ensures
+    | else-offset-h w ↦ rw (lt-leb (a.offset + a.h.slots) a.between w.if-offset-h.false) (w.value-is ∙ lt-leb (a.offset + a.h.slots) a.between w.if-offset-h.false)
+    ])
+    (elim c.if-is_count.branch [
+      then-is_count w ↦ rw (w.value-is, w.if-is_count.true) w.is_status.ensures
+    | else-is_count w ↦ rw (w.value-is, w.if-is_count.false) refl
+    ]) in
+    rw c.is_finished.ensures (not_finished a.h ∙ (rw (c.if-is_status.true, eq-eqb a.offset 0 c.if-offset-ne0.false) at tests))
 
-pub returns-then-not-is_status : goal.returns-then-not-is_status
-returns-then-not-is_status c = let a = c.args in
-    fits_status a.h a.offset a.between c.if-between-offset.false (sym c.is_count.ensures ∙ c.if-not-is_count.false) (sym c.is_status.ensures ∙ c.if-not-is_status.true)
+pub returns-else-is_status : goal.returns-else-is_status
+returns-else-is_status c = let a = c.args in
+    let tests = fits_tests a.h a.offset a.between c.if-offset-h.value c.if-is_count.value
+    (elim c.if-offset-h.branch [
+      then-offset-h w ↦ rw (w.value-is, le-leb (a.offset + a.h.slots) a.between w.if-offset-h.true) w.is_count.ensures
+    | else-offset-h w ↦ rw (lt-leb (a.offset + a.h.slots) a.between w.if-offset-h.false) (w.value-is ∙ lt-leb (a.offset + a.h.slots) a.between w.if-offset-h.false)
+    ])
+    (elim c.if-is_count.branch [
+      then-is_count w ↦ rw (w.value-is, w.if-is_count.true) w.is_status.ensures
+    | else-is_count w ↦ rw (w.value-is, w.if-is_count.false) refl
+    ]) in
+    c.if-is_status.false ∙ (rw c.if-is_status.false at tests)
 
-pub returns-then-offset-eq0 : goal.returns-then-offset-eq0
-returns-then-offset-eq0 c = let a = c.args in
-    fits_oldest a.h a.offset a.between c.if-between-offset.false (sym c.is_count.ensures ∙ c.if-not-is_count.false) (sym c.is_status.ensures ∙ c.if-not-is_status.false) c.if-offset-eq0.true
-
-pub returns : goal.returns
-returns c = let a = c.args in
-    fits_later a.h a.offset a.between c.if-between-offset.false (sym c.is_count.ensures ∙ c.if-not-is_count.false) (sym c.is_status.ensures ∙ c.if-not-is_status.false) c.if-offset-eq0.false
