@@ -2,61 +2,31 @@
 // is needed.
 #![tactic(auto)]
 
-ghost use Rattle.std.specs.Prelude.{◌≡◌, not, ◌&&◌, leb};
-ghost use Rattle.held.specs.Records.{all_free};
-ghost use Rattle.held.specs.Valid.{most_records};
+ghost use Rattle.std.specs.Prelude.{◌≡◌};
 ghost use Rattle.glancing.specs.Glance.{unheld_tally, Glanced};
 
-use held::Held;
-use noting::Tally;
+use held::{Held, MOST_RECORDS};
+use noting::{Index, Tally};
 
-const MOST_RECORDS: usize = 256;
-
-// Whether some record is in use.
-fn any_held(list: &[Held]) -> bool
-    ensures { result ≡ not (all_free list.now) }
+// The tally of a list where no slot lies between the counters: it is valid if it has at most 256 records, all of them free.
+fn unheld_tally(list: &[Held]) -> Option<Tally>
+    ensures { result ≡ unheld_tally list.now }
 {
-    let mut i: usize = 0;
-    while i < list.len() {
-        let h = records::record(list, i);
-        if h.slots != 0 {
-            return true;
-        }
-        i += 1;
+    if MOST_RECORDS < list.len() || !list.iter().all(|h| h.is_free()) {
+        return None;
     }
-    false
-}
-
-// Whether so many records, some of them in use or none, are a list where no slot lies between the counters.
-fn may_be_unheld(count: usize, any: bool) -> bool
-    ensures { result ≡ leb count most_records && not any }
-{
-    if MOST_RECORDS < count {
-        return false;
-    }
-    !any
-}
-
-// Their tally.
-fn unheld_tally(count: usize, any: bool) -> Tally
-    ensures { result ≡ unheld_tally count any }
-{
-    Tally {
-        good: may_be_unheld(count, any),
-        full: count == 0,
-        free: 0,
+    Some(Tally {
+        free: if list.is_empty() { None } else { Some(0) },
         slots: 0,
-    }
+    })
 }
 
-// Looks a list over for a take.
-pub fn look_over(list: &[Held], consumed: u32, replied: u32) -> Tally
+// Looks a list over for a take. There is a tally exactly if the list is valid.
+pub fn look_over(list: &[Held], consumed: u32, replied: u32) -> Option<Tally>
     ensures { Glanced consumed replied list.now result }
 {
     if consumed == replied {
-        let any = any_held(list);
-        return unheld_tally(list.len(), any);
+        return unheld_tally(list);
     }
-    let mut index = [0u16; 256];
-    inspecting::inspect(list, consumed, replied, &mut index)
+    inspecting::inspect(list, consumed, replied, &mut Index::new())
 }

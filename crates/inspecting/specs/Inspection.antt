@@ -1,9 +1,9 @@
 -- What an inspection of a list of held packets shows: whether it is valid (answer 17 if not), the first free record, and an index from a slot's
 -- offset behind the counter of replies sent to the record that is held there.
-use Rattle.std.specs.Prelude.{◌≡◌, ℕ, ◌+◌, ◌*◌, ◌<◌, ◌≤◌, true, false, ◌≢◌, List, length, get_or, slice_index, slice_index_or}
+use Rattle.std.specs.Prelude.{◌≡◌, ℕ, ◌+◌, ◌*◌, ◌<◌, ◌≤◌, true, ◌≢◌, List, Option, Some, is_some, length, get_or, slice_index, slice_index_or}
 use Rattle.ring.specs.Ring.{wrap, wsub}
 use Rattle.held.specs.declared.Held.{Held}
-use Rattle.held.specs.Records.{is_status, in_use, free, full, first_free}
+use Rattle.held.specs.Records.{is_status, in_use, free, vacancy}
 use Rattle.held.specs.Valid.{most_records, between, each_held, is_count, covers, valid}
 use Rattle.noting.specs.declared.Tally.{Tally}
 
@@ -26,13 +26,12 @@ pub record Indexed (n r : ℕ) (l : List Held) (index : List ℕ) : Type 0 where
   pub entries : (o : ℕ) → o < n → Stands l r (length l) o (slice_index index o)
   pub tickets : Tickets l
 
--- of a valid list: whether all records are in use, and else the first free one's place; the slots between the counters, and the index
+-- of a valid list: the first free record's place, or that all are in use; the slots between the counters, and the index
 pub record Seen (consumed replied : ℕ) (l : List Held) (s : Tally) (index : List ℕ) : Type 0 where
-  pub fullness : s.full ≡ full l
-  pub place : s.full ≡ false → s.free ≡ first_free l
+  pub place : s.free ≡ vacancy l
   pub slots : s.slots ≡ between consumed replied
   pub indexed : Indexed s.slots replied l index
 
-pub record Shown (consumed replied : ℕ) (l : List Held) (s : Tally) (index : List ℕ) : Type 0 where
-  pub good : s.good ≡ valid consumed replied l
-  pub seen : s.good ≡ true → Seen consumed replied l s index
+pub record Shown (consumed replied : ℕ) (l : List Held) (found : Option Tally) (index : List ℕ) : Type 0 where
+  pub good : is_some found ≡ valid consumed replied l
+  pub seen : (s : Tally) → found ≡ Some s → Seen consumed replied l s index

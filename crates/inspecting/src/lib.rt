@@ -6,32 +6,28 @@ ghost use Rattle.noting.specs.Survey.{made, surveyed};
 ghost use Rattle.inspecting.specs.Inspection.{Tickets, Shown};
 
 use held::Held;
-use noting::Tally;
+use noting::{Index, Tally};
 
-// A pass over the records.
-fn survey(list: &[Held], replied: u32, between: u32, index: &mut [u16; 256]) -> Tally
+// A pass over the records, as far as none is refused.
+fn survey(list: &[Held], replied: u32, between: u32, index: &mut Index) -> Option<Tally>
     requires { (length list.now ≤ 256) × (between ≤ 256) }
     ensures { (made result index.new ≡ surveyed list.now replied between index.old) × Tickets list.now }
 {
-    let mut s = noting::unread(true);
-    let mut i: usize = 0;
-    while i < list.len() {
-        let h = records::record(list, i);
-        s = noting::note(s, i as u32, h, replied, between, index);
-        i += 1;
+    let mut tally = Tally::new();
+    for (i, h) in list.iter().enumerate() {
+        tally = tally.note(i, *h, replied, between, index)?;
     }
-    s
+    Some(tally)
 }
 
-// Inspects a list, with an index that is cleared.
-pub fn inspect(list: &[Held], consumed: u32, replied: u32, index: &mut [u16; 256]) -> Tally
+// Inspects a list, with an index that is cleared. There is a tally exactly if the list is valid.
+pub fn inspect(list: &[Held], consumed: u32, replied: u32, index: &mut Index) -> Option<Tally>
     requires { index.old ≡ replicate 256 0 }
     ensures { Shown consumed replied list.now result index.new }
 {
-    let between = std::num::wrapping_sub_u32(consumed, replied);
+    let between = consumed.wrapping_sub(replied);
     if !noting::within_limits(list.len(), between) {
-        return noting::unread(false);
+        return None;
     }
-    let s = survey(list, replied, between, index);
-    noting::confirm(s, index, between)
+    survey(list, replied, between, index)?.confirm(index, between)
 }

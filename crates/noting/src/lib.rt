@@ -18,6 +18,7 @@ pub struct Tally {
 
 // The records of a list by their offsets behind the counter of replies sent. An entry is the record's slots * 256 + its place, and 0 where none is
 // held: one number, since an array of structs would be longer to clear.
+#[derive(Drop)]
 pub struct Index {
     entries: [u16; 256],
 }
