@@ -22,14 +22,14 @@ pub gives_refusal : (n : ℕ) (q : Queue) (page buffer : List ℕ) (a : Answer) 
 gives_refusal n q page buffer a h = record { report = h; queue = refl; page = refl; buffer = refl }
 
 -- rsp_prod was moved behind so many slots, whose replies stand in the page
-pub gives_consumed : (report : Bool → Report) (c slots : ℕ) (page : List ℕ) (new : ℕ) (after : List ℕ) (notifies : Bool) (r : Outcome)
-    → new ≡ wadd c slots → ProducerMoved Replies page c new after notifies → report_of r.answer ≡ report notifies → r.queue ≡ go_on new
+pub gives_consumed : (report : Bool → Report) (c slots : ℕ) (page after : List ℕ) (notifies : Bool) (a : Answer) (q : Queue) (r : Outcome)
+    → r ≡ record { answer = a; queue = q } → report_of a ≡ report notifies → q ≡ go_on (wadd c slots) → ProducerMoved Replies page c (wadd c slots) after notifies
     → (buffer : List ℕ) → Gives (consume report c slots page buffer) r after buffer
 unfolding consume
-gives_consumed report c slots page new after notifies r ahead moved answers goes buffer = record {
-  report = answers ∙ ap report (moved.notifies ∙ ap (notify Replies page c) ahead);
-  queue = goes ∙ ap go_on ahead;
-  page = moved.page ∙ ap (with_producer Replies page) ahead;
+gives_consumed report c slots page after notifies a q r is answers goes moved buffer = record {
+  report = ap (λ (x : Outcome). report_of x.answer) is ∙ answers ∙ ap report moved.notifies;
+  queue = ap (λ (x : Outcome). x.queue) is ∙ goes;
+  page = moved.page;
   buffer = refl;
 }
 

@@ -6,6 +6,5 @@ use Rattle.answer.proofs.spoil.Goals as goal
 
 pub returns : goal.returns
 returns c = let a = c.args in
-    let new = c.ahead-new in
-    let moved = c.publish-notify in
-    gives_consumed (spoiled_report a.cause a.place a.slots) a.old a.slots a.ring.now new.result _ moved.result _ new.ensures moved.ensures refl c.go_on.ensures
+    let m = c.consume-notify in
+    gives_consumed (spoiled_report a.fault.cause a.fault.place a.slots) a.old a.slots a.ring.now _ m.result.1 _ m.result.0 _ c.keep.ensures refl m.ensures.0 m.ensures.1
