@@ -2,7 +2,9 @@
 #![tactic(auto)]
 
 ghost use Rattle.std.specs.Prelude.{◌≡◌};
+ghost use Rattle.std.proofs.Common.{lit<, lit≤};
 ghost use Rattle.words.specs.Word.{bit};
+ghost use Rattle.netif.specs.Slot.{slot_width, slot_count, request_width, request_count};
 ghost use Rattle.netif.specs.Decode.{data_of, extra_of, request_of};
 
 use ring::RingSlot;
@@ -18,9 +20,9 @@ pub struct DataSlot {
 }
 
 impl RingSlot for DataSlot {
-    ghost WIDTH = { 12 };
+    ghost WIDTH = { slot_width };
 
-    ghost COUNT = { 256 };
+    ghost COUNT = { slot_count };
 
     const WIDTH: usize = 12;
 
@@ -28,8 +30,9 @@ impl RingSlot for DataSlot {
 
     ghost decoded = { data_of };
 
-    ghost laws = { Prim.search (comparing, rules) };
+    ghost laws = { (lit< tt, lit≤ tt, lit≤ tt) };
 
+    #[tactic(auto, unfolding(crate::specs::Decode::data_of, crate::specs::Slot::gref, crate::specs::Slot::offset, crate::specs::Slot::flags, crate::specs::Slot::ident, crate::specs::Slot::size))]
     fn decode(b: &[u8]) -> Self {
         DataSlot {
             gref: words::u32_at(b, 0),
@@ -55,28 +58,28 @@ impl DataSlot {
     pub fn checksum_blank(self) -> bool
         ensures { result ≡ bit 0 self.flags }
     {
-        words::bit_of(self.flags as u32, Self::CHECKSUM_BLANK)
+        words::bit_of(u32::from(self.flags), Self::CHECKSUM_BLANK)
     }
 
     // Whether the frame's data is validated.
     pub fn data_validated(self) -> bool
         ensures { result ≡ bit 1 self.flags }
     {
-        words::bit_of(self.flags as u32, Self::DATA_VALIDATED)
+        words::bit_of(u32::from(self.flags), Self::DATA_VALIDATED)
     }
 
     // Whether it announces more data.
     pub fn more_data(self) -> bool
         ensures { result ≡ bit 2 self.flags }
     {
-        words::bit_of(self.flags as u32, Self::MORE_DATA)
+        words::bit_of(u32::from(self.flags), Self::MORE_DATA)
     }
 
     // Whether it announces an extra.
     pub fn extra_follows(self) -> bool
         ensures { result ≡ bit 3 self.flags }
     {
-        words::bit_of(self.flags as u32, Self::EXTRA_FOLLOWS)
+        words::bit_of(u32::from(self.flags), Self::EXTRA_FOLLOWS)
     }
 }
 
@@ -90,9 +93,9 @@ pub struct Extra {
 }
 
 impl RingSlot for Extra {
-    ghost WIDTH = { 12 };
+    ghost WIDTH = { slot_width };
 
-    ghost COUNT = { 256 };
+    ghost COUNT = { slot_count };
 
     const WIDTH: usize = 12;
 
@@ -100,8 +103,9 @@ impl RingSlot for Extra {
 
     ghost decoded = { extra_of };
 
-    ghost laws = { Prim.search (comparing, rules) };
+    ghost laws = { (lit< tt, lit≤ tt, lit≤ tt) };
 
+    #[tactic(auto, unfolding(crate::specs::Decode::extra_of, crate::specs::Slot::gso_size, crate::specs::Slot::gso_type))]
     fn decode(b: &[u8]) -> Self {
         Extra {
             kind: b[0],
@@ -123,7 +127,7 @@ impl Extra {
     pub fn another_follows(self) -> bool
         ensures { result ≡ bit 0 self.flags }
     {
-        words::bit_of(self.flags as u32, Self::ANOTHER)
+        words::bit_of(u32::from(self.flags), Self::ANOTHER)
     }
 }
 
@@ -135,9 +139,9 @@ pub struct Request {
 }
 
 impl RingSlot for Request {
-    ghost WIDTH = { 8 };
+    ghost WIDTH = { request_width };
 
-    ghost COUNT = { 256 };
+    ghost COUNT = { request_count };
 
     const WIDTH: usize = 8;
 
@@ -145,8 +149,9 @@ impl RingSlot for Request {
 
     ghost decoded = { request_of };
 
-    ghost laws = { Prim.search (comparing, rules) };
+    ghost laws = { (lit< tt, lit≤ tt, lit≤ tt) };
 
+    #[tactic(auto, unfolding(crate::specs::Decode::request_of, crate::specs::Slot::request_ident, crate::specs::Slot::request_gref))]
     fn decode(b: &[u8]) -> Self {
         Request {
             id: words::u16_at(b, 0),

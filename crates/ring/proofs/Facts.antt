@@ -1,14 +1,19 @@
 -- What holds of every ring page, for a ring of n slots of w bytes each: its slots do not overlap, and what is stored
 -- there, a reply, req_event or a side's counter, is read back and leaves all else. `Ring` has the same of a row of replies.
-use Rattle.std.proofs.Common.{◌≡◌, ℕ, ◌+◌, ◌*◌, ◌%◌, ◌<◌, ◌≤◌, false, ◌≢◌, ◌⊎◌, List, length, get_or, sym, ap, ◌∙◌, zero-add, arith, le-ltb}
+use Rattle.std.proofs.Common.{◌≡◌, refl, ℕ, ◌+◌, ◌*◌, ◌%◌, ◌<◌, ◌≤◌, false, ◌≢◌, ◌⊎◌, List, length, get_or, sym, ap, ◌∙◌, zero-add, arith, le-ltb}
 use native.Mathlib.Nat.{mod-mod_of_dvd, dvd_of_mod-eq-zero}
 use Rattle.words.specs.Word.{u32_at, u32_bytes, splice}
 use Rattle.words.proofs.Word.{splice_length, splice_before, splice_after, splice_inside, u32_same, u32_stored}
-use Rattle.ring.specs.Ring.{wrap, wadd, wsub, req_prod, req_event, rsp_prod, rsp_event, event_of, producer_at, with_producer, notify, with_req_event, asking, slot_place, slot_at}
+use Rattle.ring.specs.Ring.{wrap, page_size, wadd, wsub, req_prod, req_event, rsp_prod, rsp_event, event_of, producer_at, with_producer, notify, with_req_event, asking, slot_place, slot_at}
+use Rattle.ring.specs.declared.TheConstants.{PAGE_SIZE}
 use Rattle.ring.specs.declared.Side.{Side}
 use Rattle.ring.specs.declared.Side.TheVariants.{Requests, Replies}
 use Rattle.ring.proofs.Counters.{not_moved}
 use Rattle.ring.proofs.Ring.{same_turn, places_apart, reply_length, reply_header, reply_slot, reply_here, slot_length, header_slot}
+
+-- a page of the code has the size that the definitions speak of
+pub page_is : PAGE_SIZE ≡ page_size
+page_is = refl
 
 -- ---- slots of different counters
 

@@ -1,11 +1,12 @@
-// The shared ring page: its header's counters, where slots stand, and what either side stores there. A ring's layout is the
-// width of a slot in bytes and the number of slots, so that one function and one law serve every ring.
+// The shared ring page: its header's counters, where slots stand, and what either side stores there. A ring's layout is that
+// of its kind of slot, so that one function and one law serve every ring.
 #![tactic(auto)]
 
 ghost use Rattle.std.specs.Prelude.{◌≡◌, ◌+◌, ◌*◌, ◌<◌, ◌≤◌, ◌++◌, length, ℕ, List};
 ghost use Rattle.words.specs.Word.{u16_bytes, splice};
 ghost use Rattle.ring.specs.Ring.{page_size, req_prod, producer_at, wadd, posted, asking, notify, ProducerMoved, slot_place, slot_at};
 
+// A ring page's size in bytes.
 pub const PAGE_SIZE: usize = 4096;
 
 // A ring page's bytes.
@@ -27,6 +28,18 @@ const SLOTS: usize = 64;
 pub enum Side {
     Requests,
     Replies,
+}
+
+impl Side {
+    // Where the side's counter stands.
+    fn producer(self) -> usize
+        ensures { result ≡ producer_at self }
+    {
+        match self {
+            Side::Requests => REQ_PROD,
+            Side::Replies => RSP_PROD,
+        }
+    }
 }
 
 // A kind of slot: the layout of its ring, and what a slot's bytes say.
@@ -60,20 +73,23 @@ pub fn requests(page: &Page) -> u32
 }
 
 // The slots posted and not yet consumed, across the counter's wrap.
+#[tactic(auto, unfolding(crate::specs::Ring::posted, crate::specs::Ring::wsub))]
 pub fn posted(page: &Page, consumed: u32) -> u32
     ensures { result ≡ posted page.now consumed }
 {
-    std::num::wrapping_sub_u32(requests(page), consumed)
+    requests(page).wrapping_sub(consumed)
 }
 
 // The counter k slots on.
+#[tactic(auto, unfolding(crate::specs::Ring::wadd))]
 pub fn ahead(n: u32, k: u32) -> u32
     ensures { result ≡ wadd n k }
 {
-    std::num::wrapping_add_u32(n, k)
+    n.wrapping_add(k)
 }
 
 // Where slot n stands.
+#[tactic(auto, using(crate::proofs::Ring::place_fits), unfolding(crate::specs::Ring::slot_place))]
 pub fn place<S: RingSlot>(n: u32) -> usize
     ensures { result ≡ slot_place S.WIDTH S.COUNT n }
 {
@@ -81,6 +97,7 @@ pub fn place<S: RingSlot>(n: u32) -> usize
 }
 
 // Slot n: a part of the page, not a copy.
+#[tactic(auto, using(crate::proofs::Ring::place_fits), unfolding(crate::specs::Ring::slot_at))]
 pub fn slot<S: RingSlot>(page: &Page, n: u32) -> &[u8]
     ensures { result.now ≡ slot_at S.WIDTH S.COUNT page.now n }
 {
@@ -90,6 +107,7 @@ pub fn slot<S: RingSlot>(page: &Page, n: u32) -> &[u8]
 }
 
 // Slot n taken apart.
+#[tactic(auto, using(crate::proofs::Ring::slot_length))]
 pub fn read<S: RingSlot>(page: &Page, n: u32) -> S
     ensures { result ≡ S.decoded (slot_at S.WIDTH S.COUNT page.now n) }
 {
@@ -97,6 +115,7 @@ pub fn read<S: RingSlot>(page: &Page, n: u32) -> S
 }
 
 // Stores the two numbers that a reply starts with over the first four bytes of slot n.
+#[tactic(auto, using(crate::proofs::Ring::place_fits))]
 pub fn reply<S: RingSlot>(page: &mut Page, n: u32, x: u16, y: u16)
     ensures { page.new ≡ splice page.old (slot_place S.WIDTH S.COUNT n) (u16_bytes x ++ u16_bytes y) }
 {
@@ -104,35 +123,28 @@ pub fn reply<S: RingSlot>(page: &mut Page, n: u32, x: u16, y: u16)
 }
 
 // Asks for an event at the next request: req_event becomes req_prod and one.
+#[tactic(auto, unfolding(crate::specs::Ring::asking, crate::specs::Ring::with_req_event))]
 pub fn ask_event(page: &mut Page)
     ensures { page.new ≡ asking page.old }
 {
-    let next = std::num::wrapping_add_u32(requests(page), 1);
+    let next = ahead(requests(page), 1);
     words::put_u32(page, REQ_EVENT, next);
 }
 
-// Where a side's counter stands.
-fn producer(side: Side) -> usize
-    ensures { result ≡ producer_at side }
-{
-    match side {
-        Side::Requests => REQ_PROD,
-        Side::Replies => RSP_PROD,
-    }
-}
-
 // Whether the other side asked for an event between two counters of a side.
+#[tactic(auto, using(crate::proofs::Facts::producer_low), unfolding(crate::specs::Ring::notify, crate::specs::Ring::wsub))]
 fn notify(page: &Page, side: Side, old: u32, new: u32) -> bool
     ensures { result ≡ notify side page.now old new }
 {
-    let event = words::u32_at(page, producer(side) + EVENT);
-    std::num::wrapping_sub_u32(new, event) < std::num::wrapping_sub_u32(new, old)
+    let event = words::u32_at(page, side.producer() + EVENT);
+    new.wrapping_sub(event) < new.wrapping_sub(old)
 }
 
 // Moves a side's counter behind what it has written, and tells whether to notify the other side.
+#[tactic(auto, using(crate::proofs::Facts::notify_moved, crate::proofs::Facts::producer_low), unfolding(crate::specs::Ring::with_producer))]
 pub fn publish(page: &mut Page, side: Side, old: u32, new: u32) -> bool
     ensures { ProducerMoved side page.old old new page.new result }
 {
-    words::put_u32(page, producer(side), new);
+    words::put_u32(page, side.producer(), new);
     notify(page, side, old, new)
 }
