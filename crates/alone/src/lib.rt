@@ -1,17 +1,19 @@
 // A packet of one slot, as most are: settled with no loop and no table.
 #![tactic(auto)]
 
-ghost use Rattle.std.specs.Prelude.{◌≡◌, List, ℕ, ◌+◌, ◌*◌, ◌≤◌, length};
+ghost use Rattle.std.specs.Prelude.{◌≡◌, List, ℕ, ◌+◌, ◌*◌, ◌≤◌, length, is_some, Some};
 ghost use Rattle.netif.specs.Decode.{data_of};
 ghost use Rattle.netif.specs.Slot.{transmit_slot};
 ghost use Rattle.answer.specs.Verdict.{good};
-ghost use Rattle.packet.specs.Stages.{slot_page};
+ghost use Rattle.packet.specs.Stages.{part_by, slot_page};
 ghost use Rattle.packet.specs.Judge.{judge};
 ghost use Rattle.held.specs.declared.Held.{Held};
+ghost use Rattle.transmit.specs.declared.Answer.{Answer};
 ghost use Rattle.transmit.specs.declared.Answer.TheVariants.{Done};
 ghost use Rattle.transmit.specs.Take.{go_on, summary_of};
 ghost use Rattle.transmit.specs.Stages.{Lent, Gives, take_whole, packet_one, alone_outline, HandedOne};
 
+use answer::Fault;
 use grammar::Outline;
 use netif::DataSlot;
 use ring::Page;
@@ -31,6 +33,15 @@ fn outline_of(head: DataSlot) -> Outline
     }
 }
 
+// Where the part of a packet of one slot lies, or its cause.
+fn judge_alone(grants: &[u8], window: &[u8], head: DataSlot) -> Result<u32, Fault>
+    ensures { (ring : List ℕ) (first : ℕ) → head ≡ data_of (transmit_slot ring first)
+        → result ≡ part_by (judge grants.now window.now 0 (packet_one ring first)) (slot_page grants.now (transmit_slot ring first)) }
+{
+    causes::judge_sizes(head.size, 0)?;
+    causes::judge_slot(grants, window, head, head.size, 0)
+}
+
 // A good packet of one slot, whose part lies in this page: copied and accepted if the frame buffer has room and a record is free.
 fn accept_alone(full: bool, head: DataSlot, page: u32, window: &[u8], frame: &mut [u8]) -> Answer
     requires { (4096 * page + 4096 ≤ length window.now) × (head.offset + head.size ≤ 4096) }
@@ -41,7 +52,7 @@ fn accept_alone(full: bool, head: DataSlot, page: u32, window: &[u8], frame: &mu
         → Gives (take_whole table window.now (go_on first replied) ring frame.old l 0 (packet_one ring first))
         (go_on first replied) l result ring frame.new }
 {
-    if frame.len() < head.size as usize {
+    if frame.len() < usize::from(head.size) {
         return Answer::NoRoom;
     }
     if full {
@@ -66,39 +77,28 @@ pub fn settle_alone(
         (go_on first replied) l result ring.new frame.new }
 {
     let head = ring::read::<DataSlot>(ring, first);
-    if let Err(fault) = causes::judge_sizes(head.size, 0) {
-        return settling::refuse(first, replied, full, outline_of(head), fault, ring);
-    }
-    match causes::judge_slot(grants, window, head, head.size, 0) {
+    match judge_alone(grants, window, head) {
         Err(fault) => settling::refuse(first, replied, full, outline_of(head), fault, ring),
         Ok(page) => accept_alone(full, head, page, window, frame),
     }
 }
 
-// Hands over the packet of one slot at the counter, if it is good and the frame buffer has room for it; whether it did.
-pub fn hand_over(first: u32, grants: &[u8], window: &[u8], ring: &Page, frame: &mut [u8]) -> bool
-    ensures { HandedOne grants.now window.now ring.now first frame.old result frame.new }
+// Hands over the packet of one slot at the counter, if it is good and the frame buffer has room for it, and answers so.
+pub fn hand_over(
+    first: u32,
+    grants: &[u8],
+    window: &[u8],
+    ring: &Page,
+    frame: &mut [u8],
+) -> Option<Answer>
+    ensures { HandedOne grants.now window.now ring.now first frame.old (is_some result) frame.new
+        × ((a : Answer) → result ≡ Some a → a ≡ Done (summary_of 0 (packet_one ring.now first)) 0) }
 {
     let head = ring::read::<DataSlot>(ring, first);
-    let size = head.size;
-    if size < 14 {
-        return false;
+    let page = judge_alone(grants, window, head).ok()?;
+    if frame.len() < usize::from(head.size) {
+        return None;
     }
-    if frame.len() < size as usize {
-        return false;
-    }
-    match causes::judge_slot(grants, window, head, size, 0) {
-        Err(_) => false,
-        Ok(page) => {
-            gathering::copy_part(window, page, head.offset, size, frame, 0);
-            true
-        }
-    }
-}
-
-// The answer to a packet of one slot at the counter that was handed over.
-pub fn handed_over(first: u32, ring: &Page) -> Answer
-    ensures { result ≡ Done (summary_of 0 (packet_one ring.now first)) 0 }
-{
-    settling::accept(outline_of(ring::read::<DataSlot>(ring, first)))
+    gathering::copy_part(window, page, head.offset, head.size, frame, 0);
+    Some(settling::accept(outline_of(head)))
 }

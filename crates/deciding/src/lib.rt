@@ -49,10 +49,7 @@ fn overflows(consumed: u32, replied: u32, ring: &Page) -> bool
     ensures { result ≡ overflow consumed replied ring.now }
 {
     let unanswered = ring::posted(ring, replied);
-    if DataSlot::COUNT < unanswered {
-        return true;
-    }
-    unanswered < std::num::wrapping_sub_u32(consumed, replied)
+    DataSlot::COUNT < unanswered || unanswered < consumed.wrapping_sub(replied)
 }
 
 // Takes the packet at the counter, if a whole one stands there; told of the list of records whether it is valid and whether it is full.
@@ -99,26 +96,13 @@ pub fn decide(
 }
 
 // Whether a take comes to a packet of one slot, and a record is free for it; told of the list of records as a take is.
-pub fn comes_to_one(queue: Queue, sound: bool, full: bool, ring: &[u8]) -> bool
+pub fn comes_to_one(queue: Queue, sound: bool, full: bool, ring: &Page) -> bool
     ensures { result ≡ true → ComesToOne queue sound full ring.now }
 {
-    let Some(ring) = ring.as_array::<{ ring::PAGE_SIZE }>() else {
-        return false;
-    };
-    if !sound {
-        return false;
-    }
-    if full {
-        return false;
-    }
-    if queue.halted {
-        return false;
-    }
-    if overflows(queue.consumed, queue.replied, ring) {
-        return false;
-    }
-    if ring::posted(ring, queue.consumed) == 0 {
-        return false;
-    }
-    divider::is_alone(ring, queue.consumed)
+    sound
+        && !full
+        && !queue.halted
+        && !overflows(queue.consumed, queue.replied, ring)
+        && ring::posted(ring, queue.consumed) != 0
+        && divider::is_alone(ring, queue.consumed)
 }

@@ -62,14 +62,11 @@ pub fn refuse(
 fn summary_of(o: Outline) -> Summary
     ensures { (p : List Slot) → o ≡ outline_of o.extras p → result ≡ summary_of o.extras p }
 {
-    let head = o.head;
-    let blank = head.checksum_blank();
-    let validated = head.data_validated();
     Summary {
         slots: o.slots,
-        total: head.size as u32,
-        checksum_blank: blank,
-        data_validated: validated,
+        total: u32::from(o.head.size),
+        checksum_blank: o.head.checksum_blank(),
+        data_validated: o.head.data_validated(),
         gso_size: o.gso_size,
         gso_type: o.gso_type,
     }
@@ -79,9 +76,8 @@ fn summary_of(o: Outline) -> Summary
 pub fn accept(o: Outline) -> Answer
     ensures { (p : List Slot) → o ≡ outline_of o.extras p → result ≡ Done (summary_of o.extras p) o.extras }
 {
-    let summary = summary_of(o);
     Answer::Done {
-        summary,
+        summary: summary_of(o),
         extras: o.extras,
     }
 }
@@ -106,7 +102,6 @@ pub fn settle(
 {
     let mut pages = [0u32; 18];
     let mut offsets = [0u16; 18];
-    let head = o.head;
     let judged = judging::judge(
         ring,
         first,
@@ -120,7 +115,7 @@ pub fn settle(
     if let Err(fault) = judged {
         return refuse(first, replied, full, o, fault, ring);
     }
-    if frame.len() < head.size as usize {
+    if frame.len() < usize::from(o.head.size) {
         return Answer::NoRoom;
     }
     if full {

@@ -12,7 +12,7 @@ use Rattle.grammar.specs.Divide.{whole, divide, alone}
 use Rattle.grammar.proofs.Reading.{alone_whole}
 use Rattle.grammar.specs.Stages.{outline_of}
 use Rattle.netif.specs.declared.DataSlot.{DataSlot}
-use Rattle.answer.specs.declared.Verdict.TheVariants.{Good, Bad}
+use Rattle.answer.specs.Verdict.{good, bad}
 use Rattle.packet.specs.Judge.{total_of, own_part, judge_sizes, judge_slot, judge, part_of, frame_of}
 use Rattle.packet.specs.Stages.{slot_page, Ready}
 use Rattle.transmit.specs.Stages.{packet_one, alone_outline}
@@ -45,17 +45,17 @@ module _ (page : List ℕ) (c : ℕ) (d : DataSlot) (is : d ≡ data_of (transmi
   own_is = size_is ∙ (omega arith)
 
   module _ (table window : List ℕ) where
-    pub alone_short : (cause k : ℕ) → judge_sizes d.size 0 ≡ Bad cause k → judge table window 0 (packet_one page c) ≡ Bad cause k
+    pub alone_short : (cause k : ℕ) → judge_sizes d.size 0 ≡ bad cause k → judge table window 0 (packet_one page c) ≡ bad cause k
     alone_short cause k h = judge_sizes_bad table window 0 (packet_one page c) cause k (ap (λ (x : ℕ). judge_sizes x 0) (sym alone_total) ∙ h)
 
-    module _ (right : judge_sizes d.size 0 ≡ Good) where
-      sizes_right : judge_sizes (total_of (packet_one page c)) 0 ≡ Good
+    module _ (right : judge_sizes d.size 0 ≡ good) where
+      sizes_right : judge_sizes (total_of (packet_one page c)) 0 ≡ good
       sizes_right = ap (λ (x : ℕ). judge_sizes x 0) (sym alone_total) ∙ right
 
-      pub alone_bad : (cause k : ℕ) → judge_slot table window 0 (transmit_slot page c) (own_part 0 (packet_one page c)) ≡ Bad cause k → judge table window 0 (packet_one page c) ≡ Bad cause k
+      pub alone_bad : (cause k : ℕ) → judge_slot table window 0 (transmit_slot page c) (own_part 0 (packet_one page c)) ≡ bad cause k → judge table window 0 (packet_one page c) ≡ bad cause k
       alone_bad cause k h = judge_slots_bad table window 0 (packet_one page c) cause k sizes_right (slots_bad table window 0 (packet_one page c) cause k h)
 
-      pub alone_good : judge_slot table window 0 (transmit_slot page c) (own_part 0 (packet_one page c)) ≡ Good → judge table window 0 (packet_one page c) ≡ Good
+      pub alone_good : judge_slot table window 0 (transmit_slot page c) (own_part 0 (packet_one page c)) ≡ good → judge table window 0 (packet_one page c) ≡ good
       alone_good h = judge_gso_lem table window 0 (packet_one page c) sizes_right (slots_later table window 0 (packet_one page c) h)
 
     pub alone_frame : (q : ℕ) → q ≡ slot_page table (transmit_slot page c) → page_part window q d.offset d.size ≡ frame_of table window 0 (packet_one page c)

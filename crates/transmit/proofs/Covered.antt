@@ -7,14 +7,14 @@ use mathlib.Core.Bool.{Bool, true, false, not, cond}
 use Prim.Native.Nat.{ℕ, ◌+◌}
 use lib.ListN.{length, take}
 use lib.Dec.{eqb}
+use Rattle.std.specs.Prelude.{Ok, Err}
 use Rattle.ring.specs.Ring.{page_size, posted}
 use Rattle.grant.specs.Lookup.{CoveredAlike}
 use Rattle.netif.specs.Slot.{Slot}
 use Rattle.grammar.specs.Divide.{Cut, whole, beginning, misshapen, divide, on_cut}
 use Rattle.held.specs.declared.Held.{Held}
 use Rattle.held.specs.Valid.{valid}
-use Rattle.answer.specs.declared.Verdict.{Verdict}
-use Rattle.answer.specs.declared.Verdict.TheVariants.{Good, Bad}
+use Rattle.answer.specs.Verdict.{Verdict}
 use Rattle.packet.specs.Judge.{judge}
 use Rattle.packet.proofs.Covered.{judge_alike, frame_alike}
 use Rattle.transmit.specs.declared.Queue.{Queue}
@@ -26,8 +26,8 @@ module _ (table window other : List ℕ) (alike : CoveredAlike table window othe
   packet_alike e p = rw (← judge_alike table window other alike e p) (go (judge table window e p) refl)
     where
       go : (v : Verdict) → judge table window e p ≡ v → take_packet table window q page frame l e p v ≡ take_packet table other q page frame l e p v
-      go (Bad cause place) h = refl
-      go Good h = rw (frame_alike table window other alike e p h)
+      go (Err f) h = refl
+      go (Ok u) h = rw (frame_alike table window other alike e p h)
 
   -- what stands at the counter, by the tests of a call and the cut of the slots posted
   abbrev found : (w : List ℕ) (bad unsound halted over none : Bool) → Cut → Look

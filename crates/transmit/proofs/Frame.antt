@@ -7,12 +7,12 @@ use native.Mathlib.Omega.{arith}
 use lib.ListN.{length, take}
 use lib.Dec.{ltb, eqb}
 use borrow.Author.Tests.{ltb-false}
+use Rattle.std.specs.Prelude.{Ok, Err}
 use Rattle.words.proofs.Word.{splice_length}
 use Rattle.ring.specs.Ring.{page_size, posted}
 use Rattle.netif.specs.Slot.{Slot}
 use Rattle.grammar.specs.Divide.{Cut, whole, beginning, misshapen, divide, on_cut}
-use Rattle.answer.specs.declared.Verdict.{Verdict}
-use Rattle.answer.specs.declared.Verdict.TheVariants.{Good, Bad}
+use Rattle.answer.specs.Verdict.{Verdict, good}
 use Rattle.packet.specs.Judge.{total_of, judge, frame_of}
 use Rattle.packet.proofs.Judge.{frame_length}
 use Rattle.held.specs.declared.Held.{Held}
@@ -33,17 +33,17 @@ module _ (table window : List ℕ) (q : Queue) (page frame : List ℕ) (l : List
   unfolding spoiled
   spoiled_fits e p cause place = record { size = refl; total = omega arith }
 
-  handed_fits : (e : ℕ) (p : List Slot) → judge table window e p ≡ Good → total_of p ≤ length frame → FrameFits frame (handed_over table window q page frame l e p)
+  handed_fits : (e : ℕ) (p : List Slot) → judge table window e p ≡ good → total_of p ≤ length frame → FrameFits frame (handed_over table window q page frame l e p)
   unfolding handed_over summary_of
-  handed_fits e p good h = record { size = splice_length frame 0 (frame_of table window e p) (omega (arith, frame_length table window e p good)); total = h }
+  handed_fits e p fine h = record { size = splice_length frame 0 (frame_of table window e p) (omega (arith, frame_length table window e p fine)); total = h }
 
   either : (b : Bool) (x y : TakeEffect) → (b ≡ true → FrameFits frame x) → (b ≡ false → FrameFits frame y) → FrameFits frame (cond b x y)
   either true x y f g = f refl
   either false x y f g = g refl
 
   packet_fits : (e : ℕ) (p : List Slot) (v : Verdict) → judge table window e p ≡ v → FrameFits frame (take_packet table window q page frame l e p v)
-  packet_fits e p (Bad cause place) is = either (full l) _ _ (λ h. refused_fits 14) (λ h. spoiled_fits e p cause place)
-  packet_fits e p Good is =
+  packet_fits e p (Err f) is = either (full l) _ _ (λ h. refused_fits 14) (λ h. spoiled_fits e p f.cause f.place)
+  packet_fits e p (Ok u) is =
       either (ltb (length frame) (total_of p)) _ _ (λ h. refused_fits 8) (λ h.
       either (full l) _ _ (λ k. refused_fits 14) (λ k. handed_fits e p is (ltb-false (length frame) (total_of p) h)))
 

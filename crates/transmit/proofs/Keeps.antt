@@ -10,6 +10,7 @@ use lib.ListN.{length, take, length-append}
 use lib.Seq.{take_at}
 use lib.Dec.{ltb, eqb}
 use borrow.Author.Tests.{ltb-false, eqb-true, lt-ltb, not-false}
+use Rattle.std.specs.Prelude.{Ok, Err}
 use Rattle.words.proofs.Word.{and_both, true_and, or_none}
 use Rattle.words.proofs.Lists.{found_set}
 use Rattle.ring.specs.Ring.{wrap, wadd, wsub, req_prod, rsp_prod, posted, asking, notify}
@@ -20,8 +21,7 @@ use Rattle.ring.proofs.Ring.{slots_length}
 use Rattle.grammar.specs.Grammar.{within}
 use Rattle.grammar.specs.Divide.{Cut, whole, beginning, misshapen, divide, on_cut}
 use Rattle.grammar.proofs.Grammar.{packet_length, divide_whole}
-use Rattle.answer.specs.declared.Verdict.{Verdict}
-use Rattle.answer.specs.declared.Verdict.TheVariants.{Good, Bad}
+use Rattle.answer.specs.Verdict.{Verdict}
 use Rattle.answer.specs.Report.{flag}
 use Rattle.answer.specs.Words.{report_words}
 use Rattle.packet.specs.Judge.{judge, total_of}
@@ -164,7 +164,7 @@ module _ (table window : List ℕ) (q : Queue) (page frame : List ℕ) (l : List
   packet_keeps : length page ≡ 4096 → valid q.consumed q.replied l ≡ true → (d e : ℕ) → divide (waiting_slots page q.consumed) ≡ whole d e
       → overflow q.consumed q.replied page ≡ false → (v : Verdict) → After (take_packet table window q page frame l e (take (d + e) (waiting_slots page q.consumed)) v)
   unfolding handed_over spoiled summary_of After
-  packet_keeps size h d e g o Good =
+  packet_keeps size h d e g o (Ok u) =
       let (n, c, few) = packet_here d e g o in
       case (ltb (length frame) (total_of (take (d + e) (waiting_slots page q.consumed)))) _ _ (λ k. same)
       (λ k. case (full l) _ _ (λ f. same) (λ f. rw n (
@@ -175,7 +175,7 @@ module _ (table window : List ℕ) (q : Queue) (page frame : List ℕ) (l : List
         },
         λ w. none_sent q.replied page,
       )))
-  packet_keeps size h d e g o (Bad x i) =
+  packet_keeps size h d e g o (Err x) =
       let (n, c, few) = packet_here d e g o in
       case (full l) _ _ (λ f. same) (λ f. rw n (
       let k = spoil_kept q.consumed q.replied l h f (d + e) e few c in

@@ -9,6 +9,7 @@ use lib.ListN.{length, take, get_or, length-take, length-append, length-map}
 use lib.Seq.{get_or-take}
 use lib.Dec.{eqb}
 use borrow.Author.Tests.{eq-eqb, ne_eqb, eqb-true, eqb-false, lt-ltb, le-ltb}
+use Rattle.std.specs.Prelude.{Result, Ok, Err}
 use Rattle.words.specs.Word.{splice, bit}
 use Rattle.words.proofs.Lists.{map_at}
 use Rattle.words.proofs.Word.{no_confusion}
@@ -24,11 +25,12 @@ use Rattle.grammar.specs.Packet.{first_of, later_of}
 use Rattle.grammar.specs.Divide.{Cut, whole, beginning, misshapen, divide, on_cut}
 use Rattle.grammar.specs.Stages.{outline_of, front_of}
 use Rattle.grammar.specs.declared.Outline.{Outline}
-use Rattle.grammar.specs.declared.Front.{Front}
-use Rattle.grammar.specs.declared.Front.TheVariants as front
+use Rattle.grammar.specs.declared.Unfinished.{Unfinished}
+use Rattle.grammar.specs.declared.Unfinished.TheVariants.{Beginning, Misshapen}
 use Rattle.answer.specs.Report.{plain, spoiled_report}
 use Rattle.answer.specs.declared.Summary.{Summary}
-use Rattle.answer.specs.declared.Verdict.TheVariants.{Good, Bad}
+use Rattle.answer.specs.Verdict.{good}
+use Rattle.answer.specs.declared.Fault.{Fault}
 use Rattle.grammar.proofs.Within.{within_datas}
 use Rattle.grammar.proofs.Grammar.{packet_length, divide_whole}
 use Rattle.packet.specs.Judge.{total_of, own_part, parts, judge_slot, judge_later, judge, part_of, later_parts, frame_of, replies_of}
@@ -50,36 +52,36 @@ use Rattle.packet.proofs.Plans.{total_of_lem, blank_of, validated_of, gso_size_o
 -- ---- what stands at the front
 
 -- by the three cuts
-front_by : List Slot → Cut → Front
-front_by l x = on_cut x (λ d e. front.Whole (outline_of e (take (d + e) l))) front.Beginning front.Misshapen
+front_by : List Slot → Cut → Result Outline Unfinished
+front_by l x = on_cut x (λ d e. Ok (outline_of e (take (d + e) l))) (Err Beginning) (Err Misshapen)
 
-by_beginning : (l : List Slot) (x : Cut) → front.Beginning ≡ front_by l x → x ≡ beginning
+by_beginning : (l : List Slot) (x : Cut) → Err Beginning ≡ front_by l x → x ≡ beginning
 unfolding front_by
 by_beginning l (whole d e) h = no_confusion cc
 by_beginning l beginning h = refl
 by_beginning l misshapen h = no_confusion cc
 
-by_misshapen : (l : List Slot) (x : Cut) → front.Misshapen ≡ front_by l x → x ≡ misshapen
+by_misshapen : (l : List Slot) (x : Cut) → Err Misshapen ≡ front_by l x → x ≡ misshapen
 unfolding front_by
 by_misshapen l (whole d e) h = no_confusion cc
 by_misshapen l beginning h = no_confusion cc
 by_misshapen l misshapen h = refl
 
-by_whole : (l : List Slot) (x : Cut) (o : Outline) → front.Whole o ≡ front_by l x → (d : ℕ) × (e : ℕ) × (x ≡ whole d e) × (o ≡ outline_of e (take (d + e) l))
+by_whole : (l : List Slot) (x : Cut) (o : Outline) → Ok o ≡ front_by l x → (d : ℕ) × (e : ℕ) × (x ≡ whole d e) × (o ≡ outline_of e (take (d + e) l))
 unfolding front_by
 by_whole l (whole d e) o h = (d, e, refl, (cc))
 by_whole l beginning o h = no_confusion cc
 by_whole l misshapen o h = no_confusion cc
 
-pub front_beginning : (l : List Slot) → front.Beginning ≡ front_of l → divide l ≡ beginning
+pub front_beginning : (l : List Slot) → Err Beginning ≡ front_of l → divide l ≡ beginning
 unfolding front_of front_by
 front_beginning l h = by_beginning l (divide l) h
 
-pub front_misshapen : (l : List Slot) → front.Misshapen ≡ front_of l → divide l ≡ misshapen
+pub front_misshapen : (l : List Slot) → Err Misshapen ≡ front_of l → divide l ≡ misshapen
 unfolding front_of front_by
 front_misshapen l h = by_misshapen l (divide l) h
 
-pub front_whole : (l : List Slot) (o : Outline) → front.Whole o ≡ front_of l → (d : ℕ) × (e : ℕ) × (divide l ≡ whole d e) × (o ≡ outline_of e (take (d + e) l))
+pub front_whole : (l : List Slot) (o : Outline) → Ok o ≡ front_of l → (d : ℕ) × (e : ℕ) × (divide l ≡ whole d e) × (o ≡ outline_of e (take (d + e) l))
 unfolding front_of front_by
 front_whole l o h = by_whole l (divide l) o h
 
@@ -118,13 +120,13 @@ module _ (page : List ℕ) (c n : ℕ) (few : n ≤ 256) (d e : ℕ) (cut : divi
 
 -- ---- a good packet's plan
 
-pub slot_inside : (table window : List ℕ) (k : ℕ) (s : Slot) (n : ℕ) → judge_slot table window k s n ≡ Good → (4096 * slot_page table s + 4096 ≤ length window) × (offset s + n ≤ 4096)
+pub slot_inside : (table window : List ℕ) (k : ℕ) (s : Slot) (n : ℕ) → judge_slot table window k s n ≡ good → (4096 * slot_page table s + 4096 ≤ length window) × (offset s + n ≤ 4096)
 unfolding slot_page
 slot_inside table window k s n h =
     let (f, r) = slot_granted table window k s n h in
     (fit_page table window (gref s) f, range_page table window (gref s) (offset s) n r f)
 
-later_inside : (table window : List ℕ) (l : List Slot) (k : ℕ) → judge_later table window k l ≡ Good → (j : ℕ) → j < length l
+later_inside : (table window : List ℕ) (l : List Slot) (k : ℕ) → judge_later table window k l ≡ good → (j : ℕ) → j < length l
     → (4096 * slot_page table (get_or l j []) + 4096 ≤ length window) × (offset (get_or l j []) + size (get_or l j []) ≤ 4096)
 later_inside table window [] k h j f = absurd (omega arith)
 later_inside table window (s ∷ l) k h zero f = slot_inside table window k s (size s) (or_else_good (judge_slot table window k s (size s)) (judge_later table window (suc k) l) h).0
@@ -142,7 +144,7 @@ column_long l t n h e = omega (arith, sym (length-take n l) ∙ ap length h)
 -- the tables hold the plan of the packet p with e extras, and it is good
 module _ (table window : List ℕ) (e : ℕ) (p : List Slot) (pages offsets sizes : List ℕ) (n : ℕ) (count : n ≡ length (datas_of e p))
     (ps : take (length (datas_of e p)) pages ≡ map (slot_page table) (datas_of e p)) (os : take (length (datas_of e p)) offsets ≡ map offset (datas_of e p)) (ss : HoldsParts sizes e p)
-    (good : judge table window e p ≡ Good) where
+    (fine : judge table window e p ≡ good) where
   pub plan_joined : joined window (take n pages) (take n offsets) (take n sizes) ≡ frame_of table window e p
   unfolding frame_of part_of parts slot_page HoldsParts
   plan_joined = rw (count, ps, os, ss) (ap (part_of table window (first_of p) (own_part e p) ++◌) (joined_later table window (later_of e p)))
@@ -163,10 +165,10 @@ module _ (table window : List ℕ) (e : ℕ) (p : List Slot) (pages offsets size
 
   inside : (i : ℕ) → i < length (datas_of e p) → (4096 * get_or (map (slot_page table) (datas_of e p)) i 0 + 4096 ≤ length window) × (get_or (map offset (datas_of e p)) i 0 + get_or (parts e p) i 0 ≤ 4096)
   unfolding parts
-  inside zero k = slot_inside table window 0 (first_of p) (own_part e p) (good_parts table window e p good).1
+  inside zero k = slot_inside table window 0 (first_of p) (own_part e p) (good_parts table window e p fine).1
   inside (suc j) k =
       rw (map_at (slot_page table) (later_of e p) j [] 0 (omega arith), map_at offset (later_of e p) j [] 0 (omega arith), map_at size (later_of e p) j [] 0 (omega arith))
-      (later_inside table window (later_of e p) (suc e) (good_parts table window e p good).2 j (omega arith))
+      (later_inside table window (later_of e p) (suc e) (good_parts table window e p fine).2 j (omega arith))
 
   pub plan_inside : InWindow window pages offsets sizes n
   unfolding InWindow HoldsParts
@@ -282,19 +284,19 @@ summary_is o e p is b v bs vs = λ i. record {
 -- ---- by the verdict
 
 module _ (table window : List ℕ) (q : Queue) (page frame : List ℕ) (l : List Held) (e : ℕ) (p : List Slot) where
-  pub packet_full : (cause place : ℕ) → full l ≡ true → take_packet table window q page frame l e p (Bad cause place) ≡ refusal 14 q page frame l
-  packet_full cause place h = rw h
+  pub packet_full : (f : Fault) → full l ≡ true → take_packet table window q page frame l e p (Err f) ≡ refusal 14 q page frame l
+  packet_full f h = rw h
 
-  pub packet_spoiled : (cause place : ℕ) → full l ≡ false → take_packet table window q page frame l e p (Bad cause place) ≡ spoiled q page frame l e p cause place
-  packet_spoiled cause place h = rw h
+  pub packet_spoiled : (f : Fault) → full l ≡ false → take_packet table window q page frame l e p (Err f) ≡ spoiled q page frame l e p f.cause f.place
+  packet_spoiled f h = rw h
 
-  module _ (good : judge table window e p ≡ Good) where
+  module _ (fine : judge table window e p ≡ good) where
     pub packet_no_room : length frame < total_of p → take_packet table window q page frame l e p (judge table window e p) ≡ refusal 8 q page frame l
-    packet_no_room h = rw (good, lt-ltb (length frame) (total_of p) h)
+    packet_no_room h = rw (fine, lt-ltb (length frame) (total_of p) h)
 
     module _ (room : total_of p ≤ length frame) where
       pub packet_no_record : full l ≡ true → take_packet table window q page frame l e p (judge table window e p) ≡ refusal 14 q page frame l
-      packet_no_record h = rw (good, le-ltb (length frame) (total_of p) room, h)
+      packet_no_record h = rw (fine, le-ltb (length frame) (total_of p) room, h)
 
       pub packet_done : full l ≡ false → take_packet table window q page frame l e p (judge table window e p) ≡ handed_over table window q page frame l e p
-      packet_done h = rw (good, le-ltb (length frame) (total_of p) room, h)
+      packet_done h = rw (fine, le-ltb (length frame) (total_of p) room, h)

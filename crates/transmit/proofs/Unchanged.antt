@@ -7,11 +7,11 @@ use Prim.Native.Nat.{ℕ, ◌+◌}
 use native.Mathlib.Omega.{arith}
 use lib.ListN.{length, take}
 use lib.Dec.{eqb, ltb}
+use Rattle.std.specs.Prelude.{Ok, Err}
 use Rattle.ring.specs.Ring.{posted, asking}
 use Rattle.netif.specs.Slot.{Slot}
 use Rattle.grammar.specs.Divide.{Cut, whole, beginning, misshapen, divide, on_cut}
-use Rattle.answer.specs.declared.Verdict.{Verdict}
-use Rattle.answer.specs.declared.Verdict.TheVariants.{Good, Bad}
+use Rattle.answer.specs.Verdict.{Verdict}
 use Rattle.answer.specs.Report.{plain, halts, asks}
 use Rattle.answer.specs.Words.{mark_after, report_words}
 use Rattle.answer.proofs.LentOn.{mark_same}
@@ -116,8 +116,8 @@ module _ (table window : List ℕ) (q : Queue) (page frame : List ℕ) (l : List
   no_record = still 14 refl (λ z. omega arith) (λ z. omega arith) refl
 
   packet_fine : q.halted ≡ false → (e : ℕ) (p : List Slot) (v : Verdict) → Fine (take_packet table window q page frame l e p v)
-  packet_fine h e p (Bad c k) = by (full l) _ _ no_record (spoiled_fine h e p c k)
-  packet_fine h e p Good =
+  packet_fine h e p (Err f) = by (full l) _ _ no_record (spoiled_fine h e p f.cause f.place)
+  packet_fine h e p (Ok u) =
       by (ltb (length frame) (total_of p)) _ _ (still 8 refl (λ z. omega arith) (λ z. omega arith) refl)
       (by (full l) _ _ no_record (handed_fine h e p))
 
