@@ -1,48 +1,27 @@
 // What a take comes to, by what was found of its list: the answer, the queue behind it and the record to keep.
 #![tactic(auto)]
 
-ghost use Rattle.std.specs.Prelude.{◌≡◌, List, cond, ℕ};
+ghost use Rattle.std.specs.Prelude.{◌≡◌, List, cond, ℕ, is_some, is_none};
 ghost use Rattle.ring.specs.Ring.{wadd};
 ghost use Rattle.held.specs.declared.Held.{Held};
 ghost use Rattle.held.specs.Records.{free, ended, failed};
+ghost use Rattle.noting.specs.Survey.{free_in};
 ghost use Rattle.transmit.specs.Take.{halt, transmit_take};
-ghost use Rattle.transmit.specs.Stages.{none_held, takes, queue_after, record_of, Found};
-ghost use Rattle.concluding.specs.Taken.{TakenFor, Concludes};
+ghost use Rattle.transmit.specs.Stages.{none_held, queue_after, Found};
+ghost use Rattle.concluding.specs.Taken.{record_taken, TakenFor, Concludes};
 
 use held::Held;
 use noting::Tally;
 use transmit::{Answer, Queue};
 
-const ERROR: u32 = 4294967295;
-
-// What a take comes to: its answer, the queue that it leaves, and the words of the record that it takes, if it takes one.
+// What a take comes to: its answer, the queue that it leaves, the counter where it began, which is the ticket of a packet that is handed
+// over, and the record of the packet that it takes, if it takes one.
 #[derive(Clone, Copy)]
 pub struct Taken {
     pub answer: Answer,
     pub queue: Queue,
-    pub takes: bool,
     pub ticket: u32,
-    pub slots: u32,
-    pub extras: u32,
-    pub status: u32,
-    pub finished: u32,
-}
-
-// Whether a packet is taken.
-fn takes(answer: Answer) -> bool
-    ensures { result ≡ takes answer }
-{
-    match answer {
-        Answer::Done { summary, extras } => true,
-        Answer::Spoiled {
-            cause,
-            place,
-            slots,
-            extras,
-            notify,
-        } => true,
-        _ => false,
-    }
+    pub record: Option<Held>,
 }
 
 // The queue, halted.
@@ -50,9 +29,8 @@ fn halted(queue: Queue) -> Queue
     ensures { result ≡ halt queue }
 {
     Queue {
-        consumed: queue.consumed,
-        replied: queue.replied,
         halted: true,
+        ..queue
     }
 }
 
@@ -71,38 +49,17 @@ fn queue_after(queue: Queue, answer: Answer) -> Queue
     ensures { result ≡ queue_after queue answer }
 {
     match answer {
-        Answer::Done { summary, extras } => Queue {
+        Answer::Done { summary, .. } => Queue {
             consumed: ring::ahead(queue.consumed, summary.slots),
-            replied: queue.replied,
-            halted: queue.halted,
+            ..queue
         },
-        Answer::Spoiled {
-            cause,
-            place,
-            slots,
-            extras,
-            notify,
-        } => Queue {
+        Answer::Spoiled { slots, .. } => Queue {
             consumed: ring::ahead(queue.consumed, slots),
             replied: replied_after(queue, slots),
-            halted: queue.halted,
+            ..queue
         },
-        Answer::Overflow => halted(queue),
-        Answer::Misshapen => halted(queue),
+        Answer::Overflow | Answer::Misshapen => halted(queue),
         _ => queue,
-    }
-}
-
-// A zeroed record.
-fn unused() -> Held
-    ensures { result ≡ free }
-{
-    Held {
-        ticket: 0,
-        slots: 0,
-        extras: 0,
-        status: 0,
-        finished: 0,
     }
 }
 
@@ -111,64 +68,31 @@ fn spoiled_record(queue: Queue, slots: u32, extras: u32) -> Held
     ensures { result ≡ cond (none_held queue) free (ended queue.consumed slots extras failed) }
 {
     if queue.consumed == queue.replied {
-        return unused();
+        return Held::FREE;
     }
     Held {
         ticket: queue.consumed,
         slots,
         extras,
-        status: ERROR,
+        status: held::ERROR,
         finished: 1,
     }
 }
 
-// The record that a packet takes.
-fn record_of(queue: Queue, answer: Answer) -> Held
-    ensures { result ≡ record_of queue answer }
+// The record that a packet takes; none where nothing is taken.
+fn record_of(queue: Queue, answer: Answer) -> Option<Held>
+    ensures { result ≡ record_taken queue answer }
 {
     match answer {
-        Answer::Done { summary, extras } => Held {
+        Answer::Done { summary, extras } => Some(Held {
             ticket: queue.consumed,
             slots: summary.slots,
             extras,
-            status: 0,
+            status: held::OKAY,
             finished: 0,
-        },
-        Answer::Spoiled {
-            cause,
-            place,
-            slots,
-            extras,
-            notify,
-        } => spoiled_record(queue, slots, extras),
-        _ => unused(),
-    }
-}
-
-// Takes the packet at the counter, if a whole one stands there, by what was found of the list; its record is not stored yet.
-pub fn conclude(
-    queue: Queue,
-    found: Tally,
-    grants: &[u8],
-    window: &[u8],
-    ring: &mut [u8],
-    frame: &mut [u8],
-) -> Taken
-    ensures { (l : List Held) → Found queue found.good found.full l → Concludes
-        (transmit_take grants.now window.now queue ring.old frame.old l)
-        queue l result ring.new frame.new }
-{
-    let answer = deciding::decide(queue, found.good, found.full, grants, window, ring, frame);
-    let record = record_of(queue, answer);
-    Taken {
-        answer,
-        queue: queue_after(queue, answer),
-        takes: takes(answer),
-        ticket: record.ticket,
-        slots: record.slots,
-        extras: record.extras,
-        status: record.status,
-        finished: record.finished,
+        }),
+        Answer::Spoiled { slots, extras, .. } => Some(spoiled_record(queue, slots, extras)),
+        _ => None,
     }
 }
 
@@ -176,15 +100,28 @@ pub fn conclude(
 pub fn taken_of(queue: Queue, answer: Answer) -> Taken
     ensures { TakenFor queue answer result }
 {
-    let kept = record_of(queue, answer);
     Taken {
         answer,
         queue: queue_after(queue, answer),
-        takes: takes(answer),
-        ticket: kept.ticket,
-        slots: kept.slots,
-        extras: kept.extras,
-        status: kept.status,
-        finished: kept.finished,
+        ticket: queue.consumed,
+        record: record_of(queue, answer),
     }
+}
+
+// Takes the packet at the counter, if a whole one stands there, by what was found of the list; its record is not stored yet.
+pub fn conclude(
+    queue: Queue,
+    found: Option<Tally>,
+    grants: &[u8],
+    window: &[u8],
+    ring: &mut [u8],
+    frame: &mut [u8],
+) -> Taken
+    ensures { (l : List Held) → Found queue (is_some found) (is_none (free_in found)) l → Concludes
+        (transmit_take grants.now window.now queue ring.old frame.old l)
+        queue l result ring.new frame.new }
+{
+    let full = noting::free_in(found).is_none();
+    let answer = deciding::decide(queue, found.is_some(), full, grants, window, ring, frame);
+    taken_of(queue, answer)
 }

@@ -21,10 +21,9 @@ pub fn take(
         result ring.new frame.new list.new }
 {
     let found = glancing::look_over(list, queue.consumed, queue.replied);
-    let t = concluding::conclude(queue, found, grants, window, ring, frame);
-    if t.takes {
-        let at = found.free as usize;
-        records::add(list, at, t.ticket, t.slots, t.extras, t.status, t.finished);
+    let taken = concluding::conclude(queue, found, grants, window, ring, frame);
+    if let (Some(at), Some(held)) = (noting::free_in(found), taken.record) {
+        records::add(list, at, held);
     }
-    t
+    taken
 }
