@@ -17,95 +17,95 @@ use Rattle.ring.specs.Ring.{wadd}
 use Rattle.ring.proofs.Ring.{slot_wrap, slots_at, slots_length, slots_drop}
 use Rattle.grant.specs.Grant.{in_range, fit_transmit}
 use Rattle.grant.specs.Lookup.{source_of, source_cause}
-use Rattle.answer.specs.Verdict.{◌or_else◌, test}
+use Rattle.std.specs.Prelude.{Result, Ok, Err}
+use Rattle.answer.specs.Verdict.{Verdict, good, bad, ◌or_else◌, test}
 use Rattle.grant.proofs.Grant.{found_at, source_cause_lem}
-use Rattle.grant.specs.declared.Source.{Source}
-use Rattle.grant.specs.declared.Source.TheVariants as source
+use Rattle.grant.specs.declared.Unlent.{Unlent}
 use Rattle.netif.specs.Slot.{Slot, gref, offset, size, checksum_blank, data_validated, transmit_slot, transmit_slots}
 use Rattle.netif.specs.Decode.{data_of}
 use Rattle.grammar.specs.Packet.{first_of, later_of, sizes, gso_size_of, gso_type_of}
 use Rattle.grammar.specs.Stages.{outline_of}
 use Rattle.grammar.specs.declared.Outline.{Outline}
 use Rattle.netif.specs.declared.DataSlot.{DataSlot}
-use Rattle.answer.specs.declared.Verdict.{Verdict}
-use Rattle.answer.specs.declared.Verdict.TheVariants.{Good, Bad}
+use Rattle.answer.specs.declared.Fault.{Fault}
 use Rattle.packet.specs.Judge.{total_of, own_part, parts, judge_sizes, judge_gso, judge_slot, judge_later, judge_slots, judge}
 use Rattle.packet.specs.Stages.{datas_of, slot_page, part_by, slot_part, SizesOf, later_at, HoldsParts}
-use Rattle.packet.specs.declared.Part.{Part}
-use Rattle.packet.specs.declared.Part.TheVariants as part
 
 -- ---- causes 1 and 3
 
 module _ (total later : ℕ) where
-  pub sizes_short : total < 14 → Bad 1 0 ≡ judge_sizes total later
+  pub sizes_short : total < 14 → bad 1 0 ≡ judge_sizes total later
   unfolding judge_sizes
   sizes_short h = rw (lt-ltb total 14 h)
 
-  pub sizes_over : 14 ≤ total → total < later → Bad 3 0 ≡ judge_sizes total later
+  pub sizes_over : 14 ≤ total → total < later → bad 3 0 ≡ judge_sizes total later
   unfolding judge_sizes
   sizes_over h k = rw (le-ltb total 14 h, lt-ltb total later k)
 
-  pub sizes_right : 14 ≤ total → later ≤ total → Good ≡ judge_sizes total later
+  pub sizes_right : 14 ≤ total → later ≤ total → good ≡ judge_sizes total later
   unfolding judge_sizes
   sizes_right h k = rw (le-ltb total 14 h, le-ltb total later k)
 
 -- ---- cause 6
 
-pub gso_zero : (e n t : ℕ) → (e ≡ 0 → ⊥) → n ≡ 0 → Bad 6 e ≡ judge_gso e n t
+pub gso_zero : (e n t : ℕ) → (e ≡ 0 → ⊥) → n ≡ 0 → bad 6 e ≡ judge_gso e n t
 gso_zero zero n t h k = absurd (h refl)
 gso_zero (suc e) n t h k = rw k
 
-pub gso_one : (e n t : ℕ) → (n ≡ 0 → ⊥) → t ≡ 1 → Good ≡ judge_gso e n t
+pub gso_one : (e n t : ℕ) → (n ≡ 0 → ⊥) → t ≡ 1 → good ≡ judge_gso e n t
 gso_one zero n t h k = refl
 gso_one (suc e) n t h k = rw (ne_eqb n 0 h, k)
 
-pub gso_two : (e n t : ℕ) → (n ≡ 0 → ⊥) → t ≡ 2 → Good ≡ judge_gso e n t
+pub gso_two : (e n t : ℕ) → (n ≡ 0 → ⊥) → t ≡ 2 → good ≡ judge_gso e n t
 gso_two zero n t h k = refl
 gso_two (suc e) n t h k = rw (ne_eqb n 0 h, k)
 
-pub gso_other : (e n t : ℕ) → (e ≡ 0 → ⊥) → (n ≡ 0 → ⊥) → (t ≡ 1 → ⊥) → (t ≡ 2 → ⊥) → Bad 6 e ≡ judge_gso e n t
+pub gso_other : (e n t : ℕ) → (e ≡ 0 → ⊥) → (n ≡ 0 → ⊥) → (t ≡ 1 → ⊥) → (t ≡ 2 → ⊥) → bad 6 e ≡ judge_gso e n t
 gso_other zero n t h k a b = absurd (h refl)
 gso_other (suc e) n t h k a b = rw (ne_eqb n 0 k, ne_eqb t 1 a, ne_eqb t 2 b)
 
 -- ---- a slot's part, by its source
+
+abbrev bad_part : (cause place : ℕ) → Result ℕ Fault
+bad_part cause place = Err (record { cause = cause; place = place })
 
 module _ (table window : List ℕ) (k n : ℕ) (d : DataSlot) (s : Slot) (is : d ≡ data_of s) where
   fields : (d.gref ≡ gref s) × (d.offset ≡ offset s)
   unfolding data_of
   fields = (ap (λ (x : DataSlot). x.gref) is, ap (λ (x : DataSlot). x.offset) is)
 
-  found : {r : Source} → r ≡ source_of table window d.gref d.offset n → r ≡ source_of table window (gref s) (offset s) n
+  found : {r : Result ℕ Unlent} → r ≡ source_of table window d.gref d.offset n → r ≡ source_of table window (gref s) (offset s) n
   found h = h ∙ (λ i. source_of table window (fields.0 i) (fields.1 i) n)
 
   -- the cause that the source tells is the slot's
-  pub part_bad : (r : Source) (c : ℕ) → r ≡ source_of table window d.gref d.offset n → source_cause r ≡ suc c → part.Bad (suc c) k ≡ slot_part table window k s n
+  pub part_bad : (r : Result ℕ Unlent) (c : ℕ) → r ≡ source_of table window d.gref d.offset n → source_cause r ≡ suc c → bad_part (suc c) k ≡ slot_part table window k s n
   unfolding slot_part judge_slot
   part_bad r c h e = go (fit_transmit table window (gref s)) (in_range table (gref s) (offset s) n) (sym e ∙ ap source_cause (found h) ∙ source_cause_lem table window (gref s) (offset s) n)
     where
-      go : (f b : Bool) → suc c ≡ cond f (cond b 0 5) 4 → part.Bad (suc c) k ≡ part_by (test (not f) 4 k or_else test (not b) 5 k) (slot_page table s)
+      go : (f b : Bool) → suc c ≡ cond f (cond b 0 5) 4 → bad_part (suc c) k ≡ part_by (test (not f) 4 k or_else test (not b) 5 k) (slot_page table s)
       go true true x = no_confusion cc
-      go true false x = ap (λ (y : ℕ). part.Bad y k) x
-      go false b x = ap (λ (y : ℕ). part.Bad y k) x
+      go true false x = ap (λ (y : ℕ). bad_part y k) x
+      go false b x = ap (λ (y : ℕ). bad_part y k) x
 
-  pub part_at : (q : ℕ) → source.At q ≡ source_of table window d.gref d.offset n → part.At q ≡ slot_part table window k s n
+  pub part_at : (q : ℕ) → Ok q ≡ source_of table window d.gref d.offset n → Ok q ≡ slot_part table window k s n
   unfolding slot_part judge_slot slot_page
   part_at q h = let e = found_at table window (gref s) (offset s) n q (found h) in rw (e.0, e.1, e.2)
 
 -- and its verdict, by its part
-by_bad : (v : Verdict) (page cause place : ℕ) → part.Bad cause place ≡ part_by v page → v ≡ Bad cause place
-by_bad Good page cause place h = no_confusion cc
-by_bad (Bad c k) page cause place h = cc
+by_bad : (v : Verdict) (page : ℕ) (f : Fault) → Err f ≡ part_by v page → v ≡ Err f
+by_bad (Ok u) page f h = no_confusion cc
+by_bad (Err g) page f h = cc
 
-by_at : (v : Verdict) (page q : ℕ) → part.At q ≡ part_by v page → (v ≡ Good) × (q ≡ page)
-by_at Good page q h = (refl, (cc))
-by_at (Bad c k) page q h = no_confusion cc
+by_at : (v : Verdict) (page q : ℕ) → Ok q ≡ part_by v page → (v ≡ good) × (q ≡ page)
+by_at (Ok u) page q h = (refl, (cc))
+by_at (Err f) page q h = no_confusion cc
 
 module _ (table window : List ℕ) (k : ℕ) (s : Slot) (n : ℕ) where
-  pub slot_bad : (cause place : ℕ) → part.Bad cause place ≡ slot_part table window k s n → judge_slot table window k s n ≡ Bad cause place
+  pub slot_bad : (f : Fault) → Err f ≡ slot_part table window k s n → judge_slot table window k s n ≡ Err f
   unfolding slot_part
-  slot_bad cause place h = by_bad (judge_slot table window k s n) (slot_page table s) cause place h
+  slot_bad f h = by_bad (judge_slot table window k s n) (slot_page table s) f h
 
-  pub slot_at : (q : ℕ) → part.At q ≡ slot_part table window k s n → (judge_slot table window k s n ≡ Good) × (q ≡ slot_page table s)
+  pub slot_at : (q : ℕ) → Ok q ≡ slot_part table window k s n → (judge_slot table window k s n ≡ good) × (q ≡ slot_page table s)
   unfolding slot_part
   slot_at q h = by_at (judge_slot table window k s n) (slot_page table s) q h
 
@@ -143,13 +143,13 @@ module _ (table window page : List ℕ) (c extras later i : ℕ) (k : i < later)
   abbrev here : Slot
   here = transmit_slot page (c + (extras + 1) + i)
 
-  later_bad : (cause place : ℕ) → judge_slot table window (suc extras + i) here (size here) ≡ Bad cause place
-      → judge_later table window (suc extras + i) (transmit_slots page (c + (extras + 1) + i) (later - i)) ≡ Bad cause place
-  later_bad cause place h =
+  later_bad : (f : Fault) → judge_slot table window (suc extras + i) here (size here) ≡ Err f
+      → judge_later table window (suc extras + i) (transmit_slots page (c + (extras + 1) + i) (later - i)) ≡ Err f
+  later_bad f h =
       let z : later - i ≡ suc (later - (i + 1)) = omega arith in
       rw (z, h)
 
-  later_good : judge_slot table window (suc extras + i) here (size here) ≡ Good
+  later_good : judge_slot table window (suc extras + i) here (size here) ≡ good
       → judge_later table window (suc extras + i) (transmit_slots page (c + (extras + 1) + i) (later - i))
       ≡ judge_later table window (suc extras + (i + 1)) (transmit_slots page (c + (extras + 1) + (i + 1)) (later - (i + 1)))
   later_good h =
@@ -158,13 +158,13 @@ module _ (table window page : List ℕ) (c extras later i : ℕ) (k : i < later)
       let x : suc extras + (i + 1) ≡ suc (suc extras + i) = omega arith in
       rw (z, h, y, x)
 
-pub later_none : (table window page : List ℕ) (k n m : ℕ) → m ≡ 0 → judge_later table window k (transmit_slots page n m) ≡ Good
+pub later_none : (table window page : List ℕ) (k n m : ℕ) → m ≡ 0 → judge_later table window k (transmit_slots page n m) ≡ good
 later_none table window page k n m h = rw h
 
 -- the turn of the loop that judges later data slot i, whose part is r
 module _ (table window page : List ℕ) (c extras later i : ℕ) (k : i < later) (sizes : List ℕ) (held : SizesOf sizes (later_at page c extras later))
     (n : ℕ) (wrapped : n ≡ wadd c (extras + 1 + i)) (d : DataSlot) (is : d ≡ data_of (transmit_slot page n))
-    (r : Part) (judged : (s : Slot) → d ≡ data_of s → r ≡ slot_part table window (extras + 1 + i) s (get_or sizes (i + 1) 0)) where
+    (r : Result ℕ Fault) (judged : (s : Slot) → d ≡ data_of s → r ≡ slot_part table window (extras + 1 + i) s (get_or sizes (i + 1) 0)) where
   abbrev this : Slot
   this = transmit_slot page (c + (extras + 1) + i)
 
@@ -182,11 +182,11 @@ module _ (table window page : List ℕ) (c extras later i : ℕ) (k : i < later)
       let z : extras + 1 + i ≡ suc extras + i = omega arith in
       judged this (is ∙ ap data_of same) ∙ (λ j. slot_part table window (z j) this (its_size j))
 
-  pub turn_bad : (cause place : ℕ) → r ≡ part.Bad cause place → judge_later table window (suc extras + i) (transmit_slots page (c + (extras + 1) + i) (later - i)) ≡ Bad cause place
-  turn_bad cause place h = later_bad table window page c extras later i k cause place (slot_bad table window (suc extras + i) this (size this) cause place (sym h ∙ its_part))
+  pub turn_bad : (f : Fault) → r ≡ Err f → judge_later table window (suc extras + i) (transmit_slots page (c + (extras + 1) + i) (later - i)) ≡ Err f
+  turn_bad f h = later_bad table window page c extras later i k f (slot_bad table window (suc extras + i) this (size this) f (sym h ∙ its_part))
 
-  module _ (q : ℕ) (h : r ≡ part.At q) where
-    at_this : (judge_slot table window (suc extras + i) this (size this) ≡ Good) × (q ≡ slot_page table this)
+  module _ (q : ℕ) (h : r ≡ Ok q) where
+    at_this : (judge_slot table window (suc extras + i) this (size this) ≡ good) × (q ≡ slot_page table this)
     at_this = slot_at table window (suc extras + i) this (size this) q (sym h ∙ its_part)
 
     pub turn_good : judge_later table window (suc extras + i) (transmit_slots page (c + (extras + 1) + i) (later - i))
@@ -274,23 +274,23 @@ column_whole f e p later h t after v k i w =
 -- ---- the verdict on all data slots
 
 module _ (table window : List ℕ) (e : ℕ) (p : List Slot) where
-  pub slots_bad : (cause k : ℕ) → judge_slot table window 0 (first_of p) (own_part e p) ≡ Bad cause k → judge_slots table window e p ≡ Bad cause k
+  pub slots_bad : (f : Fault) → judge_slot table window 0 (first_of p) (own_part e p) ≡ Err f → judge_slots table window e p ≡ Err f
   unfolding judge_slots
-  slots_bad cause k h = rw h
+  slots_bad f h = rw h
 
-  pub slots_later : judge_slot table window 0 (first_of p) (own_part e p) ≡ Good → judge_slots table window e p ≡ judge_later table window (suc e) (later_of e p)
+  pub slots_later : judge_slot table window 0 (first_of p) (own_part e p) ≡ good → judge_slots table window e p ≡ judge_later table window (suc e) (later_of e p)
   unfolding judge_slots
   slots_later h = rw h
 
   -- the verdict, rule after rule
-  pub judge_sizes_bad : (cause k : ℕ) → judge_sizes (total_of p) (sizes (later_of e p)) ≡ Bad cause k → judge table window e p ≡ Bad cause k
+  pub judge_sizes_bad : (f : Fault) → judge_sizes (total_of p) (sizes (later_of e p)) ≡ Err f → judge table window e p ≡ Err f
   unfolding judge
-  judge_sizes_bad cause k h = rw h
+  judge_sizes_bad f h = rw h
 
-  pub judge_slots_bad : (cause k : ℕ) → judge_sizes (total_of p) (sizes (later_of e p)) ≡ Good → judge_slots table window e p ≡ Bad cause k → judge table window e p ≡ Bad cause k
+  pub judge_slots_bad : (f : Fault) → judge_sizes (total_of p) (sizes (later_of e p)) ≡ good → judge_slots table window e p ≡ Err f → judge table window e p ≡ Err f
   unfolding judge
-  judge_slots_bad cause k h g = rw (h, g)
+  judge_slots_bad f h g = rw (h, g)
 
-  pub judge_gso_lem : judge_sizes (total_of p) (sizes (later_of e p)) ≡ Good → judge_slots table window e p ≡ Good → judge table window e p ≡ judge_gso e (gso_size_of e p) (gso_type_of e p)
+  pub judge_gso_lem : judge_sizes (total_of p) (sizes (later_of e p)) ≡ good → judge_slots table window e p ≡ good → judge table window e p ≡ judge_gso e (gso_size_of e p) (gso_type_of e p)
   unfolding judge
   judge_gso_lem h g = rw (h, g)
