@@ -3,6 +3,7 @@
 use mathlib.Core.Path.{◌≡◌, sym, ap, ◌∙◌}
 use mathlib.Core.List.{List, [], ◌∷◌}
 use mathlib.Core.Bool.{Bool, true, false, cond}
+use Rattle.std.specs.Prelude.{Option, Some, None}
 use Prim.Native.Nat.{ℕ, ◌+◌, ◌<◌}
 use native.Mathlib.Nat.{add-zero}
 use native.Mathlib.Omega.{arith}
@@ -14,7 +15,6 @@ use Rattle.held.specs.declared.Held.{Held}
 use Rattle.transmit.specs.declared.Queue.{Queue}
 use Rattle.transmit.specs.Take.{go_on, transmit_take}
 use Rattle.frontend.specs.declared.Gso.{Gso}
-use Rattle.frontend.specs.declared.Gso.TheVariants.{Absent, Given}
 use Rattle.frontend.specs.Post.{size_given, slots_for}
 use Rattle.frontend.specs.RoundTrip.{FitsRing, ComesBack, RoundTrip, PostFits, FewestDone}
 use Rattle.frontend.proofs.RoundTrip.{done_requests, round_trip, post_fits}
@@ -28,12 +28,12 @@ size_small : (given size type : ℕ) → size < 65536 → size_given (gso_of giv
 unfolding gso_of
 size_small given size type h = go (eqb given 0)
   where
-    go : (b : Bool) → size_given (cond b Absent (Given size type)) < 65536
+    go : (b : Bool) → size_given (cond b None (Some (record { size = size; kind = type }))) < 65536
     go true = omega arith
     go false = h
 
 -- what a take leaves, by what the definition gives back
-gives_back : (o : Gso) (grants window ring frame buffer : List ℕ) (first replied : ℕ) (list : List Held)
+gives_back : (o : Option Gso) (grants window ring frame buffer : List ℕ) (first replied : ℕ) (list : List Held)
     → ComesBack o frame buffer first replied ring list (slots_for o (length frame)) (transmit_take grants window (go_on first replied) ring buffer list)
     → (l : TakeLeft) → TakeCallLeaves grants window first replied 0 ring list buffer l → GivesBack o frame buffer first replied ring list l
 unfolding mark_after report_words
