@@ -22,11 +22,8 @@ unfolding NoneAtFront
 none_of_nothing l z p t h k = omega (arith, packet_some k, length-append p t, ap length (sym h ∙ z))
 
 -- a packet at the front of the slots that are left has one slot at least, and no more than these
-pub packet_left : (left : List Slot) (slots at n : ℕ) (r : Result ℕ Ending) → length left ≡ slots - at → at ≤ slots → r ≡ Ok n → StepIs left r
-    → (1 ≤ n) × (at + n ≤ slots) × StepIs left (Ok n)
-packet_left left slots at n r size h e s =
-    let p : StepIs left (Ok n) = subst (StepIs left) e s in
-    (omega (arith, packet_some p.1, length-take-le n left p.0), omega (arith, p.0), p)
+pub packet_left : (left : List Slot) (slots at n : ℕ) → length left ≡ slots - at → at ≤ slots → StepIs left (Ok n) → (1 ≤ n) × (at + n ≤ slots)
+packet_left left slots at n size h p = (omega (arith, packet_some p.1, length-take-le n left p.0), omega (arith, p.0))
 
 module _ (run : List Slot) (before : List ℕ) where
   -- some packets were cut off, and their lengths stand in the table

@@ -3,6 +3,7 @@
 use mathlib.Core.Path.{◌≡◌, sym, ap, ◌∙◌}
 use mathlib.Core.Logic.{◌⊎◌, inl, inr}
 use mathlib.Core.List.{List, [], ◌∷◌, ◌++◌, append-nil, append_assoc}
+use Rattle.std.specs.Prelude.{Ok, Err}
 use Prim.Native.Nat.{ℕ, ◌+◌, ◌-◌, ◌≤◌}
 use native.Mathlib.Omega.{arith}
 use lib.ListN.{length, length-append}
@@ -13,7 +14,6 @@ use Rattle.grammar.proofs.Grammar.{packet_alone, misshapen_stays}
 use Rattle.division.specs.Run.{slot_in, slots_in}
 use Rattle.division.specs.Answer.{StepIs}
 use Rattle.division.specs.declared.Ending.TheVariants as ending
-use Rattle.division.specs.declared.Step.TheVariants as step
 use Rattle.division.proofs.Runs.{slots_length, slots_join, slots_split, slots_take}
 
 -- at the front of a proper beginning stands no packet
@@ -40,10 +40,10 @@ stuck_none l s b never q (x ∷ u) j k = go (one_begins q (x ∷ u) l (s ∷ [])
 -- ---- the three ways out
 
 module _ (bytes : List ℕ) (at left n : ℕ) (fits : n ≤ left) where
-  pub front_packet : Packet (slots_in bytes at n) → StepIs (slots_in bytes at left) (step.Packet n)
+  pub front_packet : Packet (slots_in bytes at n) → StepIs (slots_in bytes at left) (Ok n)
   front_packet p = (omega (arith, slots_length bytes left at), rw (slots_take bytes n left at fits) p)
 
-  pub front_misshapen : 1 ≤ n → BeginsProperly (slots_in bytes at (n - 1)) → (Begins (slots_in bytes at n) → ⊥) → StepIs (slots_in bytes at left) (step.Stop ending.Misshapen)
+  pub front_misshapen : 1 ≤ n → BeginsProperly (slots_in bytes at (n - 1)) → (Begins (slots_in bytes at n) → ⊥) → StepIs (slots_in bytes at left) (Err ending.Misshapen)
   front_misshapen some b never =
       let z : n ≡ n - 1 + 1 = omega arith in
       let one : slots_in bytes at n ≡ slots_in bytes at (n - 1) ++ (slot_in bytes (at + (n - 1)) ∷ []) = ap (slots_in bytes at) z ∙ slots_join bytes (n - 1) 1 at in
@@ -51,5 +51,5 @@ module _ (bytes : List ℕ) (at left n : ℕ) (fits : n ≤ left) where
       let m : MisshapenFront (slots_in bytes at left) = rw (slots_split bytes n left at fits) (misshapen_stays (slots_in bytes at n) (slots_in bytes (at + n) (left - n)) (never, front)) in
       (m.1, m.0)
 
-pub front_waiting : (bytes : List ℕ) (at left : ℕ) → 1 ≤ left → BeginsProperly (slots_in bytes at left) → StepIs (slots_in bytes at left) (step.Stop ending.Waiting)
+pub front_waiting : (bytes : List ℕ) (at left : ℕ) → 1 ≤ left → BeginsProperly (slots_in bytes at left) → StepIs (slots_in bytes at left) (Err ending.Waiting)
 front_waiting bytes at left some b = (begins_none (slots_in bytes at left) b, ((λ z. omega (arith, slots_length bytes left at, ap length z)), b))

@@ -8,7 +8,7 @@ ghost use Rattle.division.specs.Run.{slots_in};
 ghost use Rattle.division.specs.Answer.{StepIs, CutAs, DividedAs};
 ghost use Rattle.slow_reader.specs.Asking.{AskedWith, AskedIs};
 
-use division::{Cuts, Divided, Ending, Step};
+use division::{Cuts, Ending, Refused};
 use netif::DataSlot;
 
 // The most extras of a packet, and the most data slots behind its first.
@@ -16,86 +16,74 @@ const EXTRAS: usize = 4;
 
 const LATER: usize = 17;
 
-// What some slots are: a packet, a proper beginning of one, or the beginning of none.
+// What some slots are, where they begin a packet: all of it, or fewer slots than it has.
 #[derive(Clone, Copy)]
 pub enum Asked {
     Packet,
     Beginning,
-    Neither,
 }
 
-// What n slots are, by the packets with so many extras.
-fn ask_with(run: &[u8], at: usize, n: usize, extras: usize) -> Asked
+// What n slots are, by the packets with so many extras; nothing where they begin none of these.
+fn ask_with(run: &[u8], at: usize, n: usize, extras: usize) -> Option<Asked>
     requires { (slot_width * (at + n) ≤ length run.now) × (1 ≤ n) × (n ≤ slot_count) × (extras ≤ 4) }
     ensures { AskedWith extras (slots_in run.now at n) result }
 {
-    let mut later: usize = 0;
-    while later <= LATER {
+    for later in 0..=LATER {
         let all = 1 + later + extras;
         if n <= all && shape::shaped(run, at, n, later, extras) {
             if n == all {
-                return Asked::Packet;
+                return Some(Asked::Packet);
             }
-            return Asked::Beginning;
+            return Some(Asked::Beginning);
         }
-        later += 1;
     }
-    Asked::Neither
+    None
 }
 
-// What n slots are, by all packets.
-fn ask(run: &[u8], at: usize, n: usize) -> Asked
+// What n slots are, by all packets; nothing where they begin none.
+fn ask(run: &[u8], at: usize, n: usize) -> Option<Asked>
     requires { (slot_width * (at + n) ≤ length run.now) × (1 ≤ n) × (n ≤ slot_count) }
     ensures { AskedIs (slots_in run.now at n) result }
 {
-    let mut extras: usize = 0;
-    while extras <= EXTRAS {
-        let asked = ask_with(run, at, n, extras);
-        match asked {
-            Asked::Packet => return Asked::Packet,
-            Asked::Beginning => return Asked::Beginning,
-            Asked::Neither => {}
+    for extras in 0..=EXTRAS {
+        if let Some(asked) = ask_with(run, at, n, extras) {
+            return Some(asked);
         }
-        extras += 1;
     }
-    Asked::Neither
+    None
 }
 
-// What stands at the front of the slots that are left: each length is asked about, from 1 on.
-fn front(run: &[u8], at: usize, left: usize) -> Step
+// The length of the packet at the front of the slots that are left, or how they end: each length is asked about, from 1 on.
+fn front(run: &[u8], at: usize, left: usize) -> Result<usize, Ending>
     requires { (slot_width * (at + left) ≤ length run.now) × (1 ≤ left) × (left ≤ slot_count) }
     ensures { StepIs (slots_in run.now at left) result }
 {
-    let mut n: usize = 1;
-    while n <= left {
-        let asked = ask(run, at, n);
-        match asked {
-            Asked::Packet => return Step::Packet(n),
-            Asked::Neither => return Step::Stop(Ending::Misshapen),
-            Asked::Beginning => {}
+    for n in 1..=left {
+        match ask(run, at, n) {
+            Some(Asked::Packet) => return Ok(n),
+            Some(Asked::Beginning) => {}
+            None => return Err(Ending::Misshapen),
         }
-        n += 1;
     }
-    Step::Stop(Ending::Waiting)
+    Err(Ending::Waiting)
 }
 
-// Cuts packets off the front as long as one stands there.
+// Cuts packets off the front as long as one stands there. Its loop and the test of a run's length stand in the fast reader too: the
+// readers share the decoding of slots alone, as shared code would not be compared.
 fn cut(run: &[u8], slots: usize, cuts: &mut [usize; 256]) -> Cuts
     requires { (slot_width * slots ≤ length run.now) × (slots ≤ slot_count) × (length cuts.old ≡ slot_count) }
     ensures { CutAs (slots_in run.now 0 slots) cuts.old cuts.new result }
 {
-    let mut at: usize = 0;
-    let mut count: usize = 0;
+    let mut at = 0;
+    let mut count = 0;
     while at < slots {
-        let step = front(run, at, slots - at);
-        match step {
-            Step::Stop(ending) => return Cuts { count, ending },
-            Step::Packet(n) => {
-                cuts[count] = n;
-                count += 1;
-                at += n;
-            }
-        }
+        let n = match front(run, at, slots - at) {
+            Ok(n) => n,
+            Err(ending) => return Cuts { count, ending },
+        };
+        cuts[count] = n;
+        count += 1;
+        at += n;
     }
     Cuts {
         count,
@@ -104,17 +92,16 @@ fn cut(run: &[u8], slots: usize, cuts: &mut [usize; 256]) -> Cuts
 }
 
 // The division of a run, 12 bytes a slot. The table gets each packet's number of slots, in order; its other places stay.
-pub fn divide(run: &[u8], cuts: &mut [usize; 256]) -> Divided
+pub fn divide(run: &[u8], cuts: &mut [usize; 256]) -> Result<Cuts, Refused>
     requires { length cuts.old ≡ slot_count }
     ensures { DividedAs run.now cuts.old cuts.new result }
 {
-    let n = run.len();
-    if n % DataSlot::WIDTH != 0 {
-        return Divided::Uneven;
+    if run.len() % DataSlot::WIDTH != 0 {
+        return Err(Refused::Uneven);
     }
-    let slots = n / DataSlot::WIDTH;
+    let slots = run.len() / DataSlot::WIDTH;
     if (DataSlot::COUNT as usize) < slots {
-        return Divided::TooLong;
+        return Err(Refused::TooLong);
     }
-    Divided::Cut(cut(run, slots, cuts))
+    Ok(cut(run, slots, cuts))
 }

@@ -11,20 +11,14 @@ use Rattle.division.proofs.Shapes.{begins_shape}
 use Rattle.slow_reader.proofs.ask.Goals as goal
 
 pub loop-extras-init : goal.loop-extras-init
-loop-extras-init c = (λ e h. absurd (omega arith), omega arith)
-
-pub returns-in-Packet : goal.returns-in-Packet
-returns-in-Packet c = subst (AskedWith _ _) c.in-Packet.is c.ask_with-asked.ensures
-
-pub returns-in-Beginning : goal.returns-in-Beginning
-returns-in-Beginning c = subst (AskedWith _ _) c.in-Beginning.is c.ask_with-asked.ensures
+loop-extras-init c = λ e h. absurd (omega arith)
 
 pub loop-extras-preserved : goal.loop-extras-preserved
 loop-extras-preserved c = let l = c.loop-extras in
-    (below_more _ _ l.invariant.0 (subst (AskedWith _ _) c.in-Neither.is c.ask_with-asked.ensures), omega arith)
+    below_more _ _ l.invariant c.in_default.ensures
 
 pub returns : goal.returns
 returns c = let a = c.args in
     λ b.
     let (d, e, w, n, h) = begins_shape (slots_in a.run.now a.at a.n) b in
-    c.loop-extras.invariant.0 e (omega (arith, within_extras (suc d) e w)) d w n h
+    c.loop-extras.invariant e (omega (arith, within_extras (suc d) e w)) d w n h

@@ -3,11 +3,8 @@
 use Prim.Native.Nat.{ℕ, ◌-◌, ◌≤◌, ◌<◌}
 use Rattle.division.specs.Run.{slots_in}
 use Rattle.slow_reader.specs.Asking.{AskedWith}
-use Rattle.slow_reader.specs.declared.Asked.TheVariants as asked
+use Rattle.std.specs.Prelude.{None}
 use Rattle.slow_reader.proofs.ask.Given as goal
 
 abbrev pub invariant-loop-extras : goal.invariant-loop-extras
-invariant-loop-extras l = ((e : ℕ) → e < l.extras → AskedWith e (slots_in l.run l.at l.n) asked.Neither) × (l.extras ≤ 5)
-
-abbrev pub decreases-loop-extras : goal.decreases-loop-extras
-decreases-loop-extras l = 5 - l.extras
+invariant-loop-extras l = (e : ℕ) → e < l.extras → AskedWith e (slots_in l.run l.at l.n) None

@@ -14,7 +14,7 @@ use Rattle.slow_reader.proofs.ask_with.Goals as goal
 use Rattle.slow_reader.proofs.ask_with.Goals.{else-n-all-via-then-n-all+else-shaped, else-n-all-via-else-n-all}
 
 pub loop-later-init : goal.loop-later-init
-loop-later-init c = (λ d h. absurd (omega arith), omega arith)
+loop-later-init c = λ d h. absurd (omega arith)
 
 pub returns-then-n-all-2 : goal.returns-then-n-all-2
 returns-then-n-all-2 c = let l = c.loop-later in
@@ -31,16 +31,14 @@ returns-then-shaped c = let l = c.loop-later in
 
 pub loop-later-preserved : goal.loop-later-preserved
 loop-later-preserved c = let l = c.loop-later in
-    let a = c.args in (
-      below_more _ _ l.invariant.0
-          (λ w n h. elim c.else-n-all.branch [
-            | else-n-all-via-then-n-all+else-shaped v ↦ (let z : true ≡ false = sym h ∙ sym v.shaped.ensures ∙ v.if-shaped.false in no_confusion cc)
-            | else-n-all-via-else-n-all v ↦ omega (arith, v.if-n-all.false, slots_length a.run.now a.n a.at)
-          ]),
-      omega arith,
-    )
+    let a = c.args in
+    below_more _ _ l.invariant
+    (λ w n h. elim c.else-n-all.branch [
+      | else-n-all-via-then-n-all+else-shaped v ↦ (let z : true ≡ false = sym h ∙ sym v.shaped.ensures ∙ v.if-shaped.false in no_confusion cc)
+      | else-n-all-via-else-n-all v ↦ omega (arith, v.if-n-all.false, slots_length a.run.now a.n a.at)
+    ])
 
 pub returns : goal.returns
 returns c = let l = c.loop-later in
     let a = c.args in
-    λ d w. l.invariant.0 d (omega (arith, within_datas (suc d) a.extras w)) w
+    λ d w. l.invariant d (omega (arith, within_datas (suc d) a.extras w)) w

@@ -10,7 +10,4 @@ use Rattle.division.specs.Shape.{shaped}
 use Rattle.slow_reader.proofs.ask_with.Given as goal
 
 abbrev pub invariant-loop-later : goal.invariant-loop-later
-invariant-loop-later l = ((d : ℕ) → d < l.later → within (suc d) l.extras ≡ true → length (slots_in l.run l.at l.n) ≤ suc d + l.extras → shaped d l.extras (slots_in l.run l.at l.n) ≡ true → ⊥) × (l.later ≤ 18)
-
-abbrev pub decreases-loop-later : goal.decreases-loop-later
-decreases-loop-later l = 18 - l.later
+invariant-loop-later l = (d : ℕ) → d < l.later → within (suc d) l.extras ≡ true → length (slots_in l.run l.at l.n) ≤ suc d + l.extras → shaped d l.extras (slots_in l.run l.at l.n) ≡ true → ⊥
