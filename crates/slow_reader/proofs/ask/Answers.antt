@@ -1,12 +1,10 @@
 -- `slow_reader::ask` meets its contract. The invariant: the slots begin no packet of fewer extras. Slots that begin a packet agree with its
 -- shape, which is within the limit, so that it was tried.
-use mathlib.Core.Path.{subst}
 use Prim.Native.Nat.{suc}
 use native.Mathlib.Omega.{arith}
 use borrow.Author.Count.{below_more}
 use Rattle.grammar.proofs.Within.{within_extras}
 use Rattle.division.specs.Run.{slots_in}
-use Rattle.slow_reader.specs.Asking.{AskedWith}
 use Rattle.division.proofs.Shapes.{begins_shape}
 use Rattle.slow_reader.proofs.ask.Goals as goal
 

@@ -1,6 +1,6 @@
 -- `slow_reader::ask` meets its contract. The invariant: the slots begin no packet of fewer extras. Slots that begin a packet agree with its
 -- shape, which is within the limit, so that it was tried.
-use Prim.Native.Nat.{ℕ, ◌-◌, ◌≤◌, ◌<◌}
+use Prim.Native.Nat.{ℕ, ◌<◌}
 use Rattle.division.specs.Run.{slots_in}
 use Rattle.slow_reader.specs.Asking.{AskedWith}
 use Rattle.std.specs.Prelude.{None}

@@ -2,7 +2,7 @@
 -- that they agree with is within the limit, as the loop ends there.
 use mathlib.Core.Path.{◌≡◌}
 use mathlib.Core.Bool.{true}
-use Prim.Native.Nat.{ℕ, suc, ◌+◌, ◌-◌, ◌≤◌, ◌<◌}
+use Prim.Native.Nat.{ℕ, suc, ◌+◌, ◌≤◌, ◌<◌}
 use lib.ListN.{length}
 use Rattle.grammar.specs.Grammar.{within}
 use Rattle.division.specs.Run.{slots_in}

@@ -5,7 +5,6 @@ use Prim.Native.Nat.{◌-◌}
 use native.Mathlib.Omega.{arith}
 use lib.ListN.{length-set}
 use Rattle.division.specs.Run.{slots_in}
-use Rattle.division.specs.Answer.{StepIs}
 use Rattle.division.specs.declared.Ending.TheVariants as ending
 use Rattle.division.proofs.Cutting.{Cutting, none_of_nothing, packet_left, cutting_start, cutting_next, cutting_end}
 use Rattle.division.proofs.Runs.{slots_length, left_drop}
