@@ -3,58 +3,55 @@
 
 ghost use Rattle.std.specs.Prelude.{◌≡◌, ◌*◌, ◌≤◌, length};
 ghost use Rattle.words.specs.Word.{splice};
-ghost use Rattle.ring.specs.Ring.{page_size};
 ghost use Rattle.netif.specs.Slot.{slot_width, slot_count, transmit_slots};
 ghost use Rattle.division.specs.Answer.{StepIs, CutAs};
 ghost use Rattle.division.specs.Fast.{divided_of, table_of};
 
-use division::{Cuts, Divided, Ending, Step};
-use grammar::Front;
+use division::{Cuts, Ending, Refused};
+use grammar::Unfinished;
 use netif::DataSlot;
 
 // Where a ring page's first slot stands.
 const FIRST: usize = 64;
 
 // Lays a run on a ring page, from the first slot on.
-fn lay(run: &[u8], page: &mut [u8])
-    requires { (length run.now ≤ slot_width * slot_count) × (length page.old ≡ page_size) }
+fn lay(run: &[u8], page: &mut [u8; 4096])
+    requires { length run.now ≤ slot_width * slot_count }
     ensures { page.new ≡ splice page.old 64 run.now }
 {
     let end = FIRST + run.len();
-    copying::copy(run, &mut page[FIRST..end]);
+    page[FIRST..end].copy_from_slice(run);
 }
 
-// What stands at the front of the slots that are left on a page.
-fn front(page: &[u8], at: u32, left: u32) -> Step
-    requires { (length page.now ≡ page_size) × (1 ≤ left) × (left ≤ slot_count) }
+// The length of the packet at the front of the slots that are left on a page, or how they end.
+fn front(page: &[u8; 4096], at: u32, left: u32) -> Result<usize, Ending>
+    requires { (1 ≤ left) × (left ≤ slot_count) }
     ensures { StepIs (transmit_slots page.now at left) result }
 {
     let mut sizes = [0u16; 18];
-    let stands = divider::read(page, at, left, &mut sizes);
-    match stands {
-        Front::Whole(outline) => Step::Packet(outline.slots as usize),
-        Front::Beginning => Step::Stop(Ending::Waiting),
-        Front::Misshapen => Step::Stop(Ending::Misshapen),
+    match divider::read(page, at, left, &mut sizes) {
+        Ok(outline) => Ok(outline.slots as usize),
+        Err(Unfinished::Beginning) => Err(Ending::Waiting),
+        Err(Unfinished::Misshapen) => Err(Ending::Misshapen),
     }
 }
 
-// Cuts packets off the front of the slots on a page as long as one stands there.
-fn cut(page: &[u8], slots: usize, cuts: &mut [usize; 256]) -> Cuts
-    requires { (length page.now ≡ page_size) × (slots ≤ slot_count) × (length cuts.old ≡ slot_count) }
+// Cuts packets off the front of the slots on a page as long as one stands there. Its loop and the test of a run's length stand in the
+// slow reader too: the readers share the decoding of slots alone, as shared code would not be compared.
+fn cut(page: &[u8; 4096], slots: usize, cuts: &mut [usize; 256]) -> Cuts
+    requires { (slots ≤ slot_count) × (length cuts.old ≡ slot_count) }
     ensures { CutAs (transmit_slots page.now 0 slots) cuts.old cuts.new result }
 {
-    let mut at: usize = 0;
-    let mut count: usize = 0;
+    let mut at = 0;
+    let mut count = 0;
     while at < slots {
-        let step = front(page, at as u32, (slots - at) as u32);
-        match step {
-            Step::Stop(ending) => return Cuts { count, ending },
-            Step::Packet(n) => {
-                cuts[count] = n;
-                count += 1;
-                at += n;
-            }
-        }
+        let n = match front(page, at as u32, (slots - at) as u32) {
+            Ok(n) => n,
+            Err(ending) => return Cuts { count, ending },
+        };
+        cuts[count] = n;
+        count += 1;
+        at += n;
     }
     Cuts {
         count,
@@ -63,19 +60,18 @@ fn cut(page: &[u8], slots: usize, cuts: &mut [usize; 256]) -> Cuts
 }
 
 // The division of a run, 12 bytes a slot. The table gets each packet's number of slots, in order; its other places stay.
-pub fn divide(run: &[u8], cuts: &mut [usize; 256]) -> Divided
+pub fn divide(run: &[u8], cuts: &mut [usize; 256]) -> Result<Cuts, Refused>
     requires { length cuts.old ≡ slot_count }
     ensures { (result ≡ divided_of run.now) × (cuts.new ≡ table_of run.now cuts.old) }
 {
-    let n = run.len();
-    if n % DataSlot::WIDTH != 0 {
-        return Divided::Uneven;
+    if run.len() % DataSlot::WIDTH != 0 {
+        return Err(Refused::Uneven);
     }
-    let slots = n / DataSlot::WIDTH;
+    let slots = run.len() / DataSlot::WIDTH;
     if (DataSlot::COUNT as usize) < slots {
-        return Divided::TooLong;
+        return Err(Refused::TooLong);
     }
     let mut page = [0u8; 4096];
     lay(run, &mut page);
-    Divided::Cut(cut(&page, slots, cuts))
+    Ok(cut(&page, slots, cuts))
 }

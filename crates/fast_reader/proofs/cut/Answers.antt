@@ -15,30 +15,30 @@ use Rattle.fast_reader.proofs.cut.Goals as goal
 pub loop-at-init : goal.loop-at-init
 loop-at-init c = let a = c.args in
     let all : a.slots - 0 ≡ a.slots = omega arith in
-    (rw all (cutting_start (transmit_slots a.page.now 0 a.slots) a.cuts.now), omega arith, omega arith, c.requires.2)
+    (rw all (cutting_start (transmit_slots a.page.now 0 a.slots) a.cuts.now), omega arith, omega arith, c.requires.1)
 
-pub returns-in-Stop : goal.returns-in-Stop
-returns-in-Stop c = let l = c.loop-at in
-    let h = subst (StepIs _) c.in-Stop.is c.front-step.ensures in
+pub returns-in-Err : goal.returns-in-Err
+returns-in-Err c = let l = c.loop-at in
+    let h = c.in-Err.ensures in
     cutting_end _ _ _ _ _ l.invariant.0 _ h.0 h.1
 
 pub overflow_add-at : goal.overflow_add-at
 overflow_add-at c = let a = c.args in
     let l = c.loop-at in
-    let p = packet_left _ a.slots l.at _ _ (slots_length slot_width slot_count a.page.now (a.slots - l.at) l.at) l.invariant.1 c.in-Packet.is c.front-step.ensures in
+    let p = packet_left _ a.slots l.at _ (slots_length slot_width slot_count a.page.now (a.slots - l.at) l.at) l.invariant.1 c.in-Ok.ensures in
     omega (arith, p.1)
 
 pub loop-at-smaller : goal.loop-at-smaller
 loop-at-smaller c = let a = c.args in
     let l = c.loop-at in
-    let p = packet_left _ a.slots l.at _ _ (slots_length slot_width slot_count a.page.now (a.slots - l.at) l.at) l.invariant.1 c.in-Packet.is c.front-step.ensures in
+    let p = packet_left _ a.slots l.at _ (slots_length slot_width slot_count a.page.now (a.slots - l.at) l.at) l.invariant.1 c.in-Ok.ensures in
     omega (arith, p.0, p.1)
 
 pub loop-at-preserved : goal.loop-at-preserved
 loop-at-preserved c = let a = c.args in
     let l = c.loop-at in
-    let p = packet_left _ a.slots l.at _ _ (slots_length slot_width slot_count a.page.now (a.slots - l.at) l.at) l.invariant.1 c.in-Packet.is c.front-step.ensures in
-    let next = cutting_next _ _ _ _ _ l.invariant.0 _ p.2.0 p.2.1 (omega arith) in
+    let p = packet_left _ a.slots l.at _ (slots_length slot_width slot_count a.page.now (a.slots - l.at) l.at) l.invariant.1 c.in-Ok.ensures in
+    let next = cutting_next _ _ _ _ _ l.invariant.0 _ c.in-Ok.ensures.0 c.in-Ok.ensures.1 (omega arith) in
     (subst (Cutting _ _ _ _) (left_drop a.page.now a.slots l.at _ p.1) next, p.1, omega (arith, p.0), simp length-set l.invariant.3)
 
 pub returns : goal.returns
