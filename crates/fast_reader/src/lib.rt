@@ -2,7 +2,6 @@
 #![tactic(auto)]
 
 ghost use Rattle.std.specs.Prelude.{◌≡◌, ◌*◌, ◌≤◌, length};
-ghost use Rattle.words.specs.Word.{splice};
 ghost use Rattle.netif.specs.Slot.{slot_width, slot_count, transmit_slots};
 ghost use Rattle.division.specs.Answer.{StepIs, CutAs};
 ghost use Rattle.division.specs.Fast.{divided_of, table_of};
@@ -10,21 +9,13 @@ ghost use Rattle.division.specs.Fast.{divided_of, table_of};
 use division::{Cuts, Ending, Refused};
 use grammar::Unfinished;
 use netif::DataSlot;
+use ring::{Page, RingSlot};
 
 // Where a ring page's first slot stands.
 const FIRST: usize = 64;
 
-// Lays a run on a ring page, from the first slot on.
-fn lay(run: &[u8], page: &mut [u8; 4096])
-    requires { length run.now ≤ slot_width * slot_count }
-    ensures { page.new ≡ splice page.old 64 run.now }
-{
-    let end = FIRST + run.len();
-    page[FIRST..end].copy_from_slice(run);
-}
-
 // The length of the packet at the front of the slots that are left on a page, or how they end.
-fn front(page: &[u8; 4096], at: u32, left: u32) -> Result<usize, Ending>
+fn front(page: &Page, at: u32, left: u32) -> Result<usize, Ending>
     requires { (1 ≤ left) × (left ≤ slot_count) }
     ensures { StepIs (transmit_slots page.now at left) result }
 {
@@ -38,7 +29,7 @@ fn front(page: &[u8; 4096], at: u32, left: u32) -> Result<usize, Ending>
 
 // Cuts packets off the front of the slots on a page as long as one stands there. Its loop and the test of a run's length stand in the
 // slow reader too: the readers share the decoding of slots alone, as shared code would not be compared.
-fn cut(page: &[u8; 4096], slots: usize, cuts: &mut [usize; 256]) -> Cuts
+fn cut(page: &Page, slots: usize, cuts: &mut [usize; 256]) -> Cuts
     requires { (slots ≤ slot_count) × (length cuts.old ≡ slot_count) }
     ensures { CutAs (transmit_slots page.now 0 slots) cuts.old cuts.new result }
 {
@@ -71,7 +62,7 @@ pub fn divide(run: &[u8], cuts: &mut [usize; 256]) -> Result<Cuts, Refused>
     if (DataSlot::COUNT as usize) < slots {
         return Err(Refused::TooLong);
     }
-    let mut page = [0u8; 4096];
-    lay(run, &mut page);
+    let mut page = [0u8; ring::PAGE_SIZE];
+    words::put_bytes(&mut page, FIRST, run);
     Ok(cut(&page, slots, cuts))
 }

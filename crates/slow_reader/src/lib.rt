@@ -10,6 +10,7 @@ ghost use Rattle.slow_reader.specs.Asking.{AskedWith, AskedIs};
 
 use division::{Cuts, Ending, Refused};
 use netif::DataSlot;
+use ring::RingSlot;
 
 // The most extras of a packet, and the most data slots behind its first.
 const EXTRAS: usize = 4;

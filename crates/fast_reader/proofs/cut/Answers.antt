@@ -6,7 +6,6 @@ use native.Mathlib.Omega.{arith}
 use lib.ListN.{length-set}
 use Rattle.ring.proofs.Ring.{slots_length}
 use Rattle.netif.specs.Slot.{slot_width, slot_count, transmit_slots}
-use Rattle.division.specs.Answer.{StepIs}
 use Rattle.division.specs.declared.Ending.TheVariants as ending
 use Rattle.division.proofs.Cutting.{Cutting, none_of_nothing, packet_left, cutting_start, cutting_next, cutting_end}
 use Rattle.fast_reader.proofs.Laid.{left_drop}

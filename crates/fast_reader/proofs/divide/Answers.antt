@@ -20,6 +20,6 @@ returns-then-slots c = divided_only _ _ _ (Err refused.TooLong) (omega arith, om
 pub returns : goal.returns
 returns c = let a = c.args in
     let k = length a.run.now / slot_width in
-    let run = ap (λ page. transmit_slots page 0 k) c.lay.ensures
+    let run = ap (λ page. transmit_slots page 0 k) c.put_bytes.ensures
     ∙ slots_laid _ a.run.now (omega arith) (omega arith) k 0 (omega arith) in
     divided_only _ _ _ (Ok c.cut.result) (omega arith, omega arith, rw run at c.cut.ensures)
