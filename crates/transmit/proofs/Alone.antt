@@ -1,10 +1,11 @@
 -- A packet of one slot: its outline, its verdict and its frame are those of the slot alone.
-use mathlib.Core.Path.{◌≡◌, sym, ap, ◌∙◌}
+use mathlib.Core.Path.{◌≡◌, refl, sym, ap, ◌∙◌}
 use mathlib.Core.List.{List, append-nil}
 use mathlib.Core.Bool.{true}
 use Prim.Native.Nat.{ℕ, suc, ◌+◌, ◌-◌, ◌≤◌}
 use native.Mathlib.Omega.{arith}
 use lib.ListN.{take}
+use Rattle.std.specs.Prelude.{Ok, Err}
 use Rattle.grant.specs.Grant.{page_part}
 use Rattle.netif.specs.Slot.{offset, size, transmit_slot, transmit_slots}
 use Rattle.netif.specs.Decode.{data_of}
@@ -12,11 +13,16 @@ use Rattle.grammar.specs.Divide.{whole, divide, alone}
 use Rattle.grammar.proofs.Reading.{alone_whole}
 use Rattle.grammar.specs.Stages.{outline_of}
 use Rattle.netif.specs.declared.DataSlot.{DataSlot}
-use Rattle.answer.specs.Verdict.{good, bad}
-use Rattle.packet.specs.Judge.{total_of, own_part, judge_sizes, judge_slot, judge, part_of, frame_of}
+use Rattle.answer.specs.declared.Fault.{Fault}
+use Rattle.answer.specs.Verdict.{Verdict, good, ◌or_else◌}
+use Rattle.packet.specs.Judge.{total_of, own_part, judge_sizes, judge_slot, judge_slots, judge, part_of, frame_of}
 use Rattle.packet.specs.Stages.{slot_page, Ready}
 use Rattle.transmit.specs.Stages.{packet_one, alone_outline}
-use Rattle.packet.proofs.Plans.{slots_bad, slots_later, judge_sizes_bad, judge_slots_bad, judge_gso_lem}
+use Rattle.packet.proofs.Plans.{judge_sizes_bad}
+
+or_good : (v : Verdict) → (v or_else good) or_else good ≡ v
+or_good (Ok u) = refl
+or_good (Err f) = refl
 
 module _ (page : List ℕ) (c : ℕ) (d : DataSlot) (is : d ≡ data_of (transmit_slot page c)) where
   pub alone_ready : Ready page c (alone_outline d)
@@ -45,18 +51,13 @@ module _ (page : List ℕ) (c : ℕ) (d : DataSlot) (is : d ≡ data_of (transmi
   own_is = size_is ∙ (omega arith)
 
   module _ (table window : List ℕ) where
-    pub alone_short : (cause k : ℕ) → judge_sizes d.size 0 ≡ bad cause k → judge table window 0 (packet_one page c) ≡ bad cause k
-    alone_short cause k h = judge_sizes_bad table window 0 (packet_one page c) cause k (ap (λ (x : ℕ). judge_sizes x 0) (sym alone_total) ∙ h)
+    pub alone_short : (f : Fault) → judge_sizes d.size 0 ≡ Err f → judge table window 0 (packet_one page c) ≡ Err f
+    alone_short f h = judge_sizes_bad table window 0 (packet_one page c) f (ap (λ (x : ℕ). judge_sizes x 0) (sym alone_total) ∙ h)
 
-    module _ (right : judge_sizes d.size 0 ≡ good) where
-      sizes_right : judge_sizes (total_of (packet_one page c)) 0 ≡ good
-      sizes_right = ap (λ (x : ℕ). judge_sizes x 0) (sym alone_total) ∙ right
-
-      pub alone_bad : (cause k : ℕ) → judge_slot table window 0 (transmit_slot page c) (own_part 0 (packet_one page c)) ≡ bad cause k → judge table window 0 (packet_one page c) ≡ bad cause k
-      alone_bad cause k h = judge_slots_bad table window 0 (packet_one page c) cause k sizes_right (slots_bad table window 0 (packet_one page c) cause k h)
-
-      pub alone_good : judge_slot table window 0 (transmit_slot page c) (own_part 0 (packet_one page c)) ≡ good → judge table window 0 (packet_one page c) ≡ good
-      alone_good h = judge_gso_lem table window 0 (packet_one page c) sizes_right (slots_later table window 0 (packet_one page c) h)
+    -- where the sizes are right, the verdict is the slot's
+    pub alone_judged : judge_sizes d.size 0 ≡ good → judge table window 0 (packet_one page c) ≡ judge_slot table window 0 (transmit_slot page c) (own_part 0 (packet_one page c))
+    unfolding judge judge_slots
+    alone_judged h = rw (ap (λ (x : ℕ). judge_sizes x 0) (sym alone_total) ∙ h) (or_good (judge_slot table window 0 (transmit_slot page c) (own_part 0 (packet_one page c))))
 
     pub alone_frame : (q : ℕ) → q ≡ slot_page table (transmit_slot page c) → page_part window q d.offset d.size ≡ frame_of table window 0 (packet_one page c)
     unfolding frame_of part_of slot_page

@@ -12,7 +12,8 @@ pub struct Queue {
     pub halted: bool,
 }
 
-// What a take answers; of a packet that is taken also how many of its slots are extras, for its record.
+// What a take answers; of a packet that is taken also how many of its slots are extras, for its record. These are document 01's answers in one
+// list and not a Result: a done packet and a spoiled one both take slots and a record.
 #[derive(Clone, Copy)]
 pub enum Answer {
     Done {
