@@ -10,7 +10,7 @@ use Rattle.words.proofs.Word.{splice_none}
 use Rattle.ring.specs.Ring.{wadd}
 use Rattle.netif.specs.Slot.{Slot, size, more_data, extra_follows, transmit_slot, transmit_slots}
 use Rattle.grammar.specs.Grammar.{within}
-use Rattle.grammar.specs.Divide.{Cut, beginning, misshapen, whole, scan}
+use Rattle.grammar.specs.Divide.{Cut, beginning, misshapen, scan}
 use Rattle.grammar.specs.Packet.{sizes as sizes_of}
 use Rattle.grammar.specs.Stages.{behind, SizesRead}
 use Rattle.grammar.proofs.Within.{within_most, within_extras, within_over_datas}
