@@ -1,6 +1,7 @@
 -- The comparison of two tables: no answer has more packets than a run has slots, and a table agrees with itself at every place.
 use mathlib.Core.Path.{◌≡◌, refl, ap}
 use mathlib.Core.List.{List, [], ◌∷◌}
+use Rattle.std.specs.Prelude.{Result, Ok, Err}
 use Prim.Native.Nat.{ℕ, zero, suc, ◌/◌, ◌≤◌}
 use native.Mathlib.Omega.{arith}
 use lib.ListN.{length, get_or, length-append}
@@ -9,8 +10,9 @@ use Rattle.netif.specs.Slot.{Slot, slot_width, slot_count}
 use Rattle.grammar.specs.Grammar.{AllPackets, join_all}
 use Rattle.grammar.proofs.Grammar.{packet_some}
 use Rattle.division.specs.Answer.{DividedAs}
-use Rattle.division.specs.declared.Divided.{Divided}
-use Rattle.division.specs.declared.Divided.TheVariants as divided
+use Rattle.division.specs.declared.Cuts.{Cuts}
+use Rattle.division.specs.declared.Refused.{Refused}
+use Rattle.division.specs.declared.Refused.TheVariants as refused
 use Rattle.division.proofs.Runs.{slots_length}
 use Rattle.readers.specs.Compare.{count_of, agreeing}
 
@@ -19,10 +21,10 @@ few_packets : (ps : List (List Slot)) → AllPackets ps → length ps ≤ length
 few_packets [] h = omega arith
 few_packets (p ∷ ps) h = omega (arith, packet_some h.0, few_packets ps h.1, length-append p (join_all ps))
 
-pub count_few : (bytes before after : List ℕ) (r : Divided) → DividedAs bytes before after r → count_of r ≤ slot_count
-count_few bytes before after divided.Uneven h = omega arith
-count_few bytes before after divided.TooLong h = omega arith
-count_few bytes before after (divided.Cut r) h =
+pub count_few : (bytes before after : List ℕ) (r : Result Cuts Refused) → DividedAs bytes before after r → count_of r ≤ slot_count
+count_few bytes before after (Err refused.Uneven) h = omega arith
+count_few bytes before after (Err refused.TooLong) h = omega arith
+count_few bytes before after (Ok r) h =
     let a = h.2 in
     omega (arith, a.count, few_packets a.packets a.division.each, ap length a.division.joined, length-append (join_all a.packets) a.rest, slots_length bytes (length bytes / slot_width) 0)
 

@@ -1,15 +1,14 @@
 -- What the comparison of both readers gives: the fast one's answer from both, and every cut of it agreed.
-use Rattle.std.specs.Prelude.{List, cond, ℕ, zero, suc, ◌+◌, get_or, eqb}
+use Rattle.std.specs.Prelude.{Result, Ok, Err, List, cond, ℕ, zero, suc, ◌+◌, get_or, eqb}
 use Rattle.division.specs.Fast.{divided_of}
-use Rattle.division.specs.declared.Divided.{Divided}
-use Rattle.division.specs.declared.Divided.TheVariants as divided
+use Rattle.division.specs.declared.Cuts.{Cuts}
+use Rattle.division.specs.declared.Refused.{Refused}
 use Rattle.readers.specs.declared.Compared.{Compared}
 
 -- the number of packets of an answer
-abbrev pub count_of : Divided → ℕ
-count_of divided.Uneven = 0
-count_of divided.TooLong = 0
-count_of (divided.Cut r) = r.count
+abbrev pub count_of : Result Cuts Refused → ℕ
+count_of (Ok r) = r.count
+count_of (Err e) = 0
 
 -- at how many of the first n places two lists are the same
 abbrev pub agreeing : ℕ → List ℕ → List ℕ → ℕ

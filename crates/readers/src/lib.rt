@@ -3,39 +3,23 @@
 
 ghost use Rattle.std.specs.Prelude.{◌≡◌, ◌≤◌};
 ghost use Rattle.netif.specs.Slot.{slot_count};
-ghost use Rattle.division.specs.Answer.{number_of};
 ghost use Rattle.readers.specs.Compare.{count_of, agreeing, compared_of};
 
-use division::{Divided, Ending};
+use division::{Cuts, Refused};
 
 // What both readers answered, and at how many of the slow one's cuts the fast one cut the same.
 #[derive(Clone, Copy)]
 pub struct Compared {
-    pub slow: Divided,
-    pub fast: Divided,
+    pub slow: Result<Cuts, Refused>,
+    pub fast: Result<Cuts, Refused>,
     pub agreed: usize,
 }
 
-// Document 01's number of a rest.
-pub fn number_of(ending: Ending) -> u32
-    ensures { result ≡ number_of ending }
-{
-    match ending {
-        Ending::Empty => 4,
-        Ending::Waiting => 6,
-        Ending::Misshapen => 5,
-    }
-}
-
 // The number of packets that an answer has.
-pub fn count_of(answer: Divided) -> usize
+pub fn count_of(answer: Result<Cuts, Refused>) -> usize
     ensures { result ≡ count_of answer }
 {
-    match answer {
-        Divided::Cut(cuts) => cuts.count,
-        Divided::Uneven => 0,
-        Divided::TooLong => 0,
-    }
+    answer.map_or(0, |cuts| cuts.count)
 }
 
 // At how many of the first n places two tables are the same.
@@ -43,13 +27,11 @@ fn agreed(n: usize, a: &[usize; 256], b: &[usize; 256]) -> usize
     requires { n ≤ slot_count }
     ensures { result ≡ agreeing n a.now b.now }
 {
-    let mut same: usize = 0;
-    let mut i: usize = 0;
-    while i < n {
+    let mut same = 0;
+    for i in 0..n {
         if a[i] == b[i] {
             same += 1;
         }
-        i += 1;
     }
     same
 }

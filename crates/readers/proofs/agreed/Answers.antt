@@ -1,4 +1,4 @@
--- `agreed` meets its contract. The invariant: so many of the places passed are the same. The measure is what is left of n.
+-- `agreed` meets its contract. The invariant: so many of the places passed are the same.
 use borrow.Author.Tests.{eq-eqb, ne_eqb}
 use mathlib.Core.Path.{◌≡◌, ap, ◌∙◌}
 use mathlib.Core.List.{List}
@@ -21,8 +21,8 @@ module _ (a b : List ℕ) (i same : ℕ) (h : same ≡ agreeing i a b) where
 pub loop-i-preserved : goal.loop-i-preserved
 loop-i-preserved c = let l = c.loop-i in
     elim c.if-a-i.branch [
-      | then-a-i w ↦ (w.same-is ∙ agreeing-same _ _ l.i l.same l.invariant.0 w.if-a-i.true, omega arith, omega arith)
-      | else-a-i w ↦ (w.same-is ∙ agreeing-other _ _ l.i l.same l.invariant.0 w.if-a-i.false, omega arith, omega arith)
+      | then-a-i w ↦ (w.same-is ∙ agreeing-same _ _ l.i l.same l.invariant.0 w.if-a-i.true, omega arith)
+      | else-a-i w ↦ (w.same-is ∙ agreeing-other _ _ l.i l.same l.invariant.0 w.if-a-i.false, omega arith)
     ]
 
 pub returns : goal.returns
