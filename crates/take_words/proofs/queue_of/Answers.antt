@@ -1,6 +1,0 @@
--- `queue_of` meets its contract: field by field, the definition's.
-use mathlib.Core.Path.{refl}
-use Rattle.take_words.proofs.queue_of.Goals as goal
-
-pub returns : goal.returns
-returns c = refl
