@@ -8,21 +8,24 @@ const SHORTEST: usize = 14;
 
 const LONGEST: usize = 65535;
 
+// The length of a piece: a page, but for the last one.
 pub const PIECE: usize = 4096;
 
 // Whether a length is none that a frame may have.
+#[tactic(auto, unfolding(receive::specs::Put::bad_length))]
 pub fn bad_length(size: usize) -> bool
     ensures { result ≡ bad_length size }
 {
-    size < SHORTEST || LONGEST < size
+    !(SHORTEST..=LONGEST).contains(&size)
 }
 
 // The requests that a frame needs: one for each piece.
+#[tactic(auto, unfolding(receive::specs::Put::needed))]
 pub fn needed(size: usize) -> u32
     requires { size ≤ 65535 }
     ensures { result ≡ needed size }
 {
-    ((size + (PIECE - 1)) / PIECE) as u32
+    size.div_ceil(PIECE) as u32
 }
 
 // The length of piece i of a frame.
@@ -31,5 +34,5 @@ pub fn piece_of(size: usize, i: usize) -> usize
     ensures { result ≡ min piece_size (size - piece_size * i) }
 {
     let left = size - PIECE * i;
-    if left < PIECE { left } else { PIECE }
+    left.min(PIECE)
 }

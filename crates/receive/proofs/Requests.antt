@@ -13,14 +13,12 @@ use Rattle.ring.specs.Ring.{wadd}
 use Rattle.ring.proofs.Ring.{slots_snoc, slots_length}
 use Rattle.grant.specs.Grant.{fit_receive}
 use Rattle.grant.specs.Lookup.{write_page}
-use Rattle.grant.specs.declared.Page.TheVariants as found
+use Rattle.std.specs.Prelude.{Some, None}
 use Rattle.grant.proofs.Grant.{write_fit, write_unfit, receive_transmit, fit_page}
 use Rattle.netif.specs.Slot.{Slot, request_gref, receive_slot, receive_slots}
 use Rattle.netif.specs.Decode.{request_of}
-use Rattle.answer.specs.Verdict.{test, ◌or_else◌}
+use Rattle.answer.specs.Verdict.{Verdict, good, bad, test, ◌or_else◌}
 use Rattle.netif.specs.declared.Request.{Request}
-use Rattle.answer.specs.declared.Verdict.{Verdict}
-use Rattle.answer.specs.declared.Verdict.TheVariants.{Good, Bad}
 use Rattle.receive.specs.Put.{page_named, pages_named, judge}
 use Rattle.receive.specs.Stages.{AllUsable, Judged}
 use Rattle.ring.proofs.Replied.{slot_ahead, slots_ahead}
@@ -29,7 +27,7 @@ pub gref_field : (s : Slot) (r : Request) → r ≡ request_of s → r.gref ≡ 
 unfolding request_of
 gref_field s r h = ap (λ (x : Request). x.gref) h
 
-not_good : (c k : ℕ) → Bad c k ≡ Good → ⊥
+not_good : (c k : ℕ) → bad c k ≡ good → ⊥
 not_good c k h = no_confusion cc
 
 -- the request at slot n: the page that its grant names, or that it is unfit
@@ -37,23 +35,23 @@ module _ (table window page : List ℕ) (n : ℕ) (r : Request) (reads : r ≡ r
   grefs : r.gref ≡ request_gref (receive_slot page n)
   grefs = gref_field (receive_slot page n) r reads
 
-  pub request_unfit : found.Unfit ≡ write_page table window r.gref → fit_receive table window (request_gref (receive_slot page n)) ≡ false
+  pub request_unfit : None ≡ write_page table window r.gref → fit_receive table window (request_gref (receive_slot page n)) ≡ false
   request_unfit h = write_unfit table window (request_gref (receive_slot page n)) (rw grefs at h)
 
-  pub request_fit : (p : ℕ) → found.Fit p ≡ write_page table window r.gref → (fit_receive table window (request_gref (receive_slot page n)) ≡ true) × (p ≡ page_named table (receive_slot page n))
+  pub request_fit : (p : ℕ) → Some p ≡ write_page table window r.gref → (fit_receive table window (request_gref (receive_slot page n)) ≡ true) × (p ≡ page_named table (receive_slot page n))
   request_fit p h = write_fit table window (request_gref (receive_slot page n)) p (rw grefs at h)
 
 module _ (table window page : List ℕ) (first count n i : ℕ) (here : n ≡ wadd first i) (r : Request) (reads : r ≡ request_of (receive_slot page n)) where
-  judge_unfit : i < count → found.Unfit ≡ write_page table window r.gref → judge table window i (receive_slots page (first + i) (count - i)) ≡ Bad 4 i
+  judge_unfit : i < count → None ≡ write_page table window r.gref → judge table window i (receive_slots page (first + i) (count - i)) ≡ bad 4 i
   judge_unfit k h = rw (slots_ahead 8 256 refl page first n i count k here, request_unfit table window page n r reads h)
 
   -- it is unfit
-  pub judged_unfit : (pages : List ℕ) → length pages ≡ 16 → judge table window 0 (receive_slots page first count) ≡ judge table window i (receive_slots page (first + i) (count - i))
-      → i < count → found.Unfit ≡ write_page table window r.gref → Judged table window (receive_slots page first count) pages (Bad 4 i)
-  judged_unfit pages s inv k h = record { verdict = sym (inv ∙ judge_unfit k h); sized = s; named = λ g. absurd (not_good 4 i g) }
+  pub judged_unfit : (pages : List ℕ) → judge table window 0 (receive_slots page first count) ≡ judge table window i (receive_slots page (first + i) (count - i))
+      → i < count → None ≡ write_page table window r.gref → Judged table window (receive_slots page first count) pages (bad 4 i)
+  judged_unfit pages inv k h = record { verdict = sym (inv ∙ judge_unfit k h); named = λ g. absurd (not_good 4 i g) }
 
   -- it is fit
-  module _ (p : ℕ) (fit : found.Fit p ≡ write_page table window r.gref) where
+  module _ (p : ℕ) (fit : Some p ≡ write_page table window r.gref) where
     fits : (fit_receive table window (request_gref (receive_slot page n)) ≡ true) × (p ≡ page_named table (receive_slot page n))
     fits = request_fit table window page n r reads p fit
 
@@ -70,24 +68,23 @@ module _ (table window page : List ℕ) (first count n i : ℕ) (here : n ≡ wa
         ∙ sym (ap (pages_named table) (slots_snoc 8 256 page i first))
 
 -- none is left
-pub judged_good : (table window page : List ℕ) (first count i : ℕ) (pages : List ℕ) → length pages ≡ 16
+pub judged_good : (table window page : List ℕ) (first count i : ℕ) (pages : List ℕ)
     → judge table window 0 (receive_slots page first count) ≡ judge table window i (receive_slots page (first + i) (count - i)) → take i pages ≡ pages_named table (receive_slots page first i)
-    → i ≡ count → Judged table window (receive_slots page first count) pages Good
-judged_good table window page first count i pages s inv named h =
+    → i ≡ count → Judged table window (receive_slots page first count) pages good
+judged_good table window page first count i pages inv named h =
     let none : count - i ≡ 0 = omega arith in
     let all : length (receive_slots page first count) ≡ i = slots_length 8 256 page count first ∙ sym h in
     record {
       verdict = sym (inv ∙ ap (λ (k : ℕ). judge table window i (receive_slots page (first + i) k)) none);
-      sized = s;
       named = λ g. rw all (named ∙ ap (λ (k : ℕ). pages_named table (receive_slots page first k)) h);
     }
 
 -- the verdict on requests that are all fit
-rest_good : (b : Bool) (k : ℕ) (v : Verdict) → test (not b) 4 k or_else v ≡ Good → (b ≡ true) × (v ≡ Good)
+rest_good : (b : Bool) (k : ℕ) (v : Verdict) → test (not b) 4 k or_else v ≡ good → (b ≡ true) × (v ≡ good)
 rest_good true k v h = (refl, h)
 rest_good false k v h = no_confusion cc
 
-pub good_usable : (table window : List ℕ) (l : List Slot) (k : ℕ) → judge table window k l ≡ Good → AllUsable (length window) (pages_named table l)
+pub good_usable : (table window : List ℕ) (l : List Slot) (k : ℕ) → judge table window k l ≡ good → AllUsable (length window) (pages_named table l)
 good_usable table window [] k h = tt
 good_usable table window (s ∷ l) k h =
     let (fit, rest) = rest_good (fit_receive table window (request_gref s)) k (judge table window (suc k) l) h in
