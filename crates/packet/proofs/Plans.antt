@@ -1,5 +1,6 @@
 -- Judging as the code does it: a slot's part by its source, and its verdict by that, the later data slots one by one, and what a good
 -- packet's plan comes to: its parts lie in the window, and joined they are the frame.
+use mathlib.Core.Logic.{◌⊎◌, inl, inr}
 use mathlib.Core.Path.{◌≡◌, refl, sym, ap, ◌∙◌}
 use mathlib.Core.Bool.{Bool, true, false, cond, not}
 use mathlib.Core.List.{List, [], ◌∷◌, map}
@@ -48,17 +49,17 @@ module _ (total later : ℕ) where
 
 -- ---- cause 6
 
+pub gso_none : (e n t : ℕ) → e ≡ 0 → good ≡ judge_gso e n t
+gso_none e n t h = rw h
+
+pub gso_right : (e n t : ℕ) → (n ≡ 0 → ⊥) → (t ≡ 1) ⊎ (t ≡ 2) → good ≡ judge_gso e n t
+gso_right zero n t h k = refl
+gso_right (suc e) n t h (inl k) = rw (ne_eqb n 0 h, k)
+gso_right (suc e) n t h (inr k) = rw (ne_eqb n 0 h, k)
+
 pub gso_zero : (e n t : ℕ) → (e ≡ 0 → ⊥) → n ≡ 0 → bad 6 e ≡ judge_gso e n t
 gso_zero zero n t h k = absurd (h refl)
 gso_zero (suc e) n t h k = rw k
-
-pub gso_one : (e n t : ℕ) → (n ≡ 0 → ⊥) → t ≡ 1 → good ≡ judge_gso e n t
-gso_one zero n t h k = refl
-gso_one (suc e) n t h k = rw (ne_eqb n 0 h, k)
-
-pub gso_two : (e n t : ℕ) → (n ≡ 0 → ⊥) → t ≡ 2 → good ≡ judge_gso e n t
-gso_two zero n t h k = refl
-gso_two (suc e) n t h k = rw (ne_eqb n 0 h, k)
 
 pub gso_other : (e n t : ℕ) → (e ≡ 0 → ⊥) → (n ≡ 0 → ⊥) → (t ≡ 1 → ⊥) → (t ≡ 2 → ⊥) → bad 6 e ≡ judge_gso e n t
 gso_other zero n t h k a b = absurd (h refl)
