@@ -13,7 +13,6 @@ use Rattle.grammar.specs.Grammar.{most_slots, Packet, Begins, BeginsProperly, At
 use Rattle.grammar.specs.Divide.{Cut, whole, beginning, misshapen, divide, divided, packets_of, rest_of}
 use Rattle.grammar.proofs.Within.{within_one, within_bound}
 use Rattle.words.proofs.Lists.{one_begins, append_cancel, length_zero}
-use Rattle.words.proofs.Word.{no_confusion}
 use Rattle.grammar.proofs.Scan.{scan_whole, scan_beginning, rest_scan, open_scan, packet_rest, rest_packet, none_rest, plain_data, some_list}
 
 -- ---- a packet's slots
@@ -46,7 +45,7 @@ begins_divide (s ∷ l) t n p = open_scan l t 1 0 _ _ (extra_follows s) (more_da
 -- what the divider calls whole is a packet
 pub divide_whole : (l : List Slot) (d e : ℕ) → divide l ≡ whole d e → AtFront l d e
 unfolding divide rest_packet
-divide_whole [] d e h = no_confusion cc
+divide_whole [] d e h = cc
 divide_whole (s ∷ l) d e h =
     let (p, t, q, r) = scan_whole l 1 0 d e (extra_follows s) (more_data s) h in
     record {
@@ -94,7 +93,7 @@ misshapen_iff l = (λ h. (no_begin h, no_front h), λ n. back (divide l) refl n)
     no_front : divide l ≡ misshapen → (p t : List Slot) → l ≡ p ++ t → Packet p → ⊥
     no_front h p t j k =
         let a : divide l ≡ whole (suc (length k.later)) (length k.extras) = ap divide j ∙ packet_divide k t in
-        no_confusion cc
+        cc
 
     no_begin : divide l ≡ misshapen → ((t : List Slot) × Packet (l ++ t)) → ⊥
     no_begin h b = go b.0 b.1
@@ -103,7 +102,7 @@ misshapen_iff l = (λ h. (no_begin h, no_front h), λ n. back (divide l) refl n)
         go [] k = no_front h (l ++ []) [] (sym (append-nil l) ∙ sym (append-nil (l ++ []))) k
         go (s ∷ t) k =
             let a : divide l ≡ beginning = begins_divide l (s ∷ t) some_list k in
-            no_confusion cc
+            cc
 
     back : (c : Cut) → divide l ≡ c → (((t : List Slot) × Packet (l ++ t)) → ⊥) × ((p t : List Slot) → l ≡ p ++ t → Packet p → ⊥) → divide l ≡ misshapen
     back (whole d e) h n = let a = divide_whole l d e h in absurd (n.1 a.front a.tail a.joined a.packet)
@@ -117,8 +116,7 @@ front_or_beginning_lem : (l : List Slot) (d e : ℕ) → AtFront l d e → Begin
 front_or_beginning_lem l d e a b =
     let h : divide l ≡ whole d e = (whole_iff l d e).1 a in
     let k : divide l ≡ beginning = (beginning_iff l).1 b in
-    let z : ◌≡◌ {A = ℕ} 0 1 = cc in
-    omega arith
+    cc
 
 -- one of the three
 some_of_three : (l : List Slot) → ((d : ℕ) × (e : ℕ) × AtFront l d e) ⊎ (BeginsProperly l ⊎ MisshapenFront l)
@@ -254,8 +252,8 @@ divided_division (suc n) l h = go (divide l) refl (λ k. divided_division n k)
           each = (a.packet, r.each);
           ends = r.ends;
         })
-    go beginning k ih = rw k (division_none l (none_found l λ d e j. no_confusion cc))
-    go misshapen k ih = rw k (division_none l (none_found l λ d e j. no_confusion cc))
+    go beginning k ih = rw k (division_none l (none_found l λ d e j. cc))
+    go misshapen k ih = rw k (division_none l (none_found l λ d e j. cc))
 
 -- a run has a division into packets and a rest with no packet at its front
 pub division : (run : List Slot) → Division run (packets_of run) (rest_of run)

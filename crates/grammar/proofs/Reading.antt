@@ -1,15 +1,16 @@
 -- From what the divider's loops have read to what stands at the front: the packet that they found, taken off the page.
 use mathlib.Core.Path.{◌≡◌, refl, sym, ap, ◌∙◌}
 use mathlib.Core.List.{List, [], ◌∷◌, map}
-use mathlib.Core.Bool.{Bool, true, false, not, ◌&&◌}
+use mathlib.Core.Bool.{Bool, true, false, not}
 use Prim.Native.Nat.{ℕ, zero, suc, ◌+◌, ◌-◌, ◌≤◌, ◌<◌}
 use native.Mathlib.Omega.{arith}
 use native.Mathlib.Numerals.{add-one}
 use lib.ListN.{length, take}
 use lib.Seq.{get_or-take}
 use Rattle.std.specs.Prelude.{Ok, Err}
+use Rattle.std.proofs.lemmas.Bool.{not-true}
 use Rattle.words.specs.Word.{splice, bit}
-use Rattle.words.proofs.Word.{no_confusion}
+use Rattle.words.proofs.Word.{and_both}
 use Rattle.ring.proofs.Ring.{slots_take, slots_drop, slots_length}
 use Rattle.netif.specs.Slot.{Slot, size, more_data, extra_follows, transmit_slot, transmit_slots}
 use Rattle.netif.specs.Decode.{data_of}
@@ -27,8 +28,8 @@ use Rattle.grammar.proofs.Loop.{nothing_owed, more_bit, follows_bit}
 
 pub read_unfinished : (l : List Slot) (before after : List ℕ) (e : Unfinished) → divide l ≡ cut_of e → FrontRead l before after (Err e)
 unfolding front_of
-read_unfinished l before after Beginning h = record { answer = rw h; table = λ d e k. no_confusion cc }
-read_unfinished l before after Misshapen h = record { answer = rw h; table = λ d e k. no_confusion cc }
+read_unfinished l before after Beginning h = record { answer = rw h; table = λ d e k. cc }
+read_unfinished l before after Misshapen h = record { answer = rw h; table = λ d e k. cc }
 
 -- ---- the gso fields of the slots in front
 
@@ -105,13 +106,8 @@ module _ (page : List ℕ) (first posted : ℕ) where
     }
 
 -- a first slot that announces nothing
-both_clear : (a b : Bool) → not a && not b ≡ true → (a ≡ false) × (b ≡ false)
-both_clear false false h = (refl, refl)
-both_clear false true h = no_confusion cc
-both_clear true b h = no_confusion cc
-
 pub alone_whole : (s : Slot) (l : List Slot) → alone s ≡ true → divide (s ∷ l) ≡ whole 1 0
 unfolding alone divide
 alone_whole s l h =
-    let k = both_clear (more_data s) (extra_follows s) h in
-    rw (k.0, k.1) (nothing_owed l 1 0 within_one)
+    let k = and_both (not (more_data s)) (not (extra_follows s)) h in
+    rw (not-true _ k.0, not-true _ k.1) (nothing_owed l 1 0 within_one)

@@ -7,7 +7,7 @@ use Prim.Native.Nat.{ℕ, suc, ◌+◌, ◌≤◌}
 use native.Mathlib.Omega.{arith}
 use lib.ListN.{length, length-append}
 use Rattle.words.specs.Word.{bit, u16_at}
-use Rattle.words.proofs.Word.{no_confusion, and_both}
+use Rattle.words.proofs.Word.{and_both}
 use Rattle.netif.specs.Slot.{Slot, flags, more_data, extra_follows, is_extra, another_extra}
 use Rattle.grammar.specs.Grammar.{within, is_later, Chain, final, linked, Owed, Packet}
 use Rattle.grammar.specs.Divide.{Cut, whole, beginning, misshapen, owed, scan}
@@ -157,18 +157,18 @@ passed₂ : (a b : Bool) (c z : Cut) → z ≢ misshapen → cond (a && b) c mis
 passed₂ a b c z n h = let (p, q) = passed (a && b) c z n h in ((and_both a b p).1, q)
 
 whole_shaped : {D E : ℕ} → whole D E ≢ misshapen
-whole_shaped h = no_confusion cc
+whole_shaped h = cc
 
 beginning_shaped : beginning ≢ misshapen
-beginning_shaped h = no_confusion cc
+beginning_shaped h = cc
 
 not_beginning : (d e : ℕ) (b : Bool) → cond b (whole d e) misshapen ≢ beginning
-not_beginning d e true h = no_confusion cc
-not_beginning d e false h = no_confusion cc
+not_beginning d e true h = cc
+not_beginning d e false h = cc
 
 not_whole : (D E : ℕ) (b : Bool) → cond b beginning misshapen ≢ whole D E
-not_whole D E true h = no_confusion cc
-not_whole D E false h = no_confusion cc
+not_whole D E true h = cc
+not_whole D E false h = cc
 
 -- ---- the divider's answers are right
 
@@ -235,7 +235,7 @@ abbrev pub Open : List Slot → ℕ → ℕ → Bool → Bool → Type 0
 Open l d e x m = (t : List Slot) × (t ≢ []) × (D : ℕ) × (E : ℕ) × Rest d e D E x m (l ++ t)
 
 pub some_list : {a : Slot} {l : List Slot} → a ∷ l ≢ []
-some_list h = no_confusion cc
+some_list h = cc
 
 pub scan_beginning : (l : List Slot) (d e : ℕ) (x m : Bool) → scan l d e x m ≡ beginning → Open l d e x m
 scan_beginning [] d e false false h = absurd (not_beginning d e (within d e) h)
@@ -285,8 +285,8 @@ scan_beginning (s ∷ l) d e false true h =
 
 pub rest_scan : (p t : List Slot) (d e D E : ℕ) (x m : Bool) → Rest d e D E x m p → scan (p ++ t) d e x m ≡ whole D E
 rest_scan [] t d e D E false false r = let (n, a, b) = rest_none r in rw (scan_done, ← a, ← b, r.limit)
-rest_scan [] t d e D E true m r = absurd (let z : ◌≡◌ {A = ℕ} 0 1 = cc (rest_nil r).0 in omega arith)
-rest_scan [] t d e D E false true r = absurd (let z : ◌≡◌ {A = ℕ} 0 1 = cc (rest_nil r).1 in omega arith)
+rest_scan [] t d e D E true m r = cc (rest_nil r).0
+rest_scan [] t d e D E false true r = cc (rest_nil r).1
 rest_scan (s ∷ p) t d e D E false false r = absurd (some_list (rest_none r).0)
 rest_scan (s ∷ p) t d e D E true m r =
     let (b, k) = rest_extra r in

@@ -8,7 +8,6 @@ use native.Mathlib.Omega.{arith}
 use lib.ListN.{length, take, length-append}
 use lib.Seq.{take_at}
 use lib.Dec.{eqb}
-use Rattle.words.proofs.Word.{no_confusion}
 use Rattle.ring.specs.Ring.{wrap, wadd}
 use Rattle.ring.proofs.Counters.{wadd_wadd, wadd_zero}
 use Rattle.netif.specs.Slot.{Slot}
@@ -19,10 +18,6 @@ use Rattle.grammar.proofs.Grammar.{divide_begins, beginning_iff, misshapen_iff, 
 
 -- ---- lists of packets
 
-pub join_snoc : (ps : List (List Slot)) (p : List Slot) → join_all (ps ++ (p ∷ [])) ≡ join_all ps ++ p
-join_snoc [] p = append-nil p
-join_snoc (q ∷ ps) p = ap (q ++◌) (join_snoc ps p) ∙ sym (append_assoc q (join_all ps) p)
-
 pub each_append : (ps qs : List (List Slot)) → AllPackets ps → AllPackets qs → AllPackets (ps ++ qs)
 each_append [] qs h k = k
 each_append (p ∷ ps) qs h k = (h.0, each_append ps qs h.1 k)
@@ -30,6 +25,9 @@ each_append (p ∷ ps) qs h k = (h.0, each_append ps qs h.1 k)
 pub join_append : (ps qs : List (List Slot)) → join_all (ps ++ qs) ≡ join_all ps ++ join_all qs
 join_append [] qs = refl
 join_append (p ∷ ps) qs = ap (p ++◌) (join_append ps qs) ∙ sym (append_assoc p (join_all ps) (join_all qs))
+
+pub join_snoc : (ps : List (List Slot)) (p : List Slot) → join_all (ps ++ (p ∷ [])) ≡ join_all ps ++ p
+join_snoc ps p = join_append ps (p ∷ []) ∙ ap (join_all ps ++◌) (append-nil p)
 
 -- ---- the ends
 
@@ -67,7 +65,7 @@ ending_misshapen a t l h w = record {
 }
   where
     clash : divide l ≡ beginning → ⊥
-    clash k = no_confusion cc
+    clash k = cc
 
 -- no packet stands at the front: the division is the list itself
 alone : (l : List Slot) → ((d e : ℕ) → divide l ≡ whole d e → ⊥) → (packets_of l ≡ []) × (rest_of l ≡ l)
@@ -77,10 +75,10 @@ not_whole : (l : List Slot) (k : Cut) → ((d e : ℕ) → k ≡ whole d e → �
 not_whole l k f h d e g = f d e (sym h ∙ g)
 
 not_beginning : (d e : ℕ) → beginning ≡ whole d e → ⊥
-not_beginning d e h = no_confusion cc
+not_beginning d e h = cc
 
 not_misshapen : (d e : ℕ) → misshapen ≡ whole d e → ⊥
-not_misshapen d e h = no_confusion cc
+not_misshapen d e h = cc
 
 module _ (Call : Type 0) (answer : Call → ℕ) (Took : ℕ → Call → List Slot → Type 0) (Told : ℕ → Call → Type 0) where
   -- ---- counting the calls that took a packet
@@ -122,7 +120,7 @@ module _ (Call : Type 0) (answer : Call → ℕ) (Took : ℕ → Call → List S
     served = Served.none;
     takes = refl;
     counter = sym (wadd_zero c h);
-    halts = λ k. no_confusion cc;
+    halts = λ k. cc;
   }
 
   module _ {c : ℕ} {run : List Slot} {calls : List Call} {consumed : ℕ} {mark : Bool} {done : List (List Slot)} {left : List Slot} (v : Reads c run calls consumed mark done left) where
@@ -174,7 +172,7 @@ module _ (Call : Type 0) (answer : Call → ℕ) (Took : ℕ → Call → List S
           ap (λ (x : ℕ). wadd x (length p)) v.counter
           ∙ wadd_wadd c (length (join_all done)) (length p)
           ∙ ap (wadd c) (sym (length-append (join_all done) p) ∙ ap length (sym (join_snoc done p)));
-      halts = λ z. no_confusion cc;
+      halts = λ z. cc;
     }
 
     -- the division of the run, by what is done and what is left

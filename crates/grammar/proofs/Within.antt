@@ -5,6 +5,7 @@ use Prim.Native.Nat.{ℕ, ◌+◌, ◌≤◌, ◌<◌}
 use native.Mathlib.Omega.{arith}
 use lib.Dec.{leb}
 use borrow.Author.Tests.{leb-true, le-leb}
+use Rattle.std.proofs.lemmas.Bool.{false_from_ne_true}
 use Rattle.words.proofs.Word.{and_both}
 use Rattle.grammar.specs.Grammar.{within, most_slots}
 use Rattle.grammar.specs.Divide.{owed}
@@ -30,19 +31,11 @@ within_most d e p q = rw (le-leb d 18 p, le-leb e 4 q)
 
 -- more extras are not
 pub within_over_extras : (d e : ℕ) → 4 < e → within d e ≡ false
-within_over_extras d e h = go (within d e) refl
-  where
-    go : (b : Bool) → within d e ≡ b → b ≡ false
-    go true w = absurd (omega (arith, within_extras d e w))
-    go false w = refl
+within_over_extras d e h = false_from_ne_true (within d e) (λ w. omega (arith, within_extras d e w))
 
 -- nor are more data slots
 pub within_over_datas : (d e : ℕ) → 18 < d → within d e ≡ false
-within_over_datas d e h = go (within d e) refl
-  where
-    go : (b : Bool) → within d e ≡ b → b ≡ false
-    go true w = absurd (omega (arith, within_datas d e w))
-    go false w = refl
+within_over_datas d e h = false_from_ne_true (within d e) (λ w. omega (arith, within_datas d e w))
 
 -- fewer slots are within the limit too
 pub within_down : (d e d' e' : ℕ) → within d e ≡ true → d' ≤ d → e' ≤ e → within d' e' ≡ true
