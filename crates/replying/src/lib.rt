@@ -13,6 +13,7 @@ use netif::{DataSlot, Extra};
 use ring::Page;
 
 // Replies to the data slot at a counter: its own id and a status.
+#[tactic(auto, unfolding(packet::specs::Judge::data_reply, netif::specs::Slot::transmit_reply, netif::specs::Decode::data_of))]
 fn reply_data(ring: &mut Page, n: u32, status: u16)
     ensures { ring.new ≡ splice ring.old (slot_place slot_width slot_count n)
         (data_reply status (transmit_slot ring.old n)) }
