@@ -1,13 +1,32 @@
 -- Where both readers agree: on nothing, on one run by what the library promises, and on comparisons put together.
 use Rattle.std.proofs.Common.{◌≡◌, ℕ, ◌+◌, ◌^◌, ◌<◌, List, sym, refl, ap, ◌∙◌, arith, eq-eqb}
+use Rattle.std.specs.Prelude.{Result, Ok, Err}
 use Rattle.division.specs.Answer.{number_of}
 use Rattle.readers.specs.Compare.{count_of, compared_of}
-use Rattle.division.specs.declared.Divided.{Divided}
-use Rattle.division.specs.declared.Divided.TheVariants as divided
+use Rattle.division.specs.declared.Cuts.{Cuts}
+use Rattle.division.specs.declared.Refused.{Refused}
+use Rattle.division.specs.declared.Refused.TheVariants as refused
 use Rattle.readers.specs.declared.Compared.{Compared}
 use Rattle.tally.specs.Answer.{same_of, alike_of}
 use Rattle.tally.specs.Tally.{sum_of, Nothing, Together, Counted, Agreeing}
 use Rattle.tally.specs.declared.Tally.{Tally}
+use Rattle.tally.specs.contracts.TallyDefault
+
+-- the default counts nothing
+pub default_nothing : {r : Tally} → TallyDefault.TheImpl.is_default-value.it r → Nothing r
+default_nothing d = record {
+  runs = d.0;
+  slots = d.1;
+  slow = d.2;
+  fast = d.3;
+  agreed = d.4;
+  alike = d.5;
+  empty = d.6;
+  waiting = d.7;
+  misshapen = d.8;
+  uneven = d.9;
+  too_long = d.10;
+}
 
 pub nothing_agrees : {r : Tally} → Nothing r → Agreeing 0 r
 nothing_agrees n = record {
@@ -35,10 +54,10 @@ agrees_own a = record { runs = refl; cuts = a.cuts; agreed = a.agreed; alike = a
 same_self : (n : ℕ) → same_of n n ≡ 1
 same_self n = rw (eq-eqb n n refl)
 
-alike_self : (a : Divided) → alike_of a a ≡ 1
-alike_self divided.Uneven = refl
-alike_self divided.TooLong = refl
-alike_self (divided.Cut r) = same_self (number_of r.ending)
+alike_self : (a : Result Cuts Refused) → alike_of a a ≡ 1
+alike_self (Err refused.Uneven) = refl
+alike_self (Err refused.TooLong) = refl
+alike_self (Ok r) = same_self (number_of r.ending)
 
 pub counted_agrees : (bytes : List ℕ) (slots : ℕ) (compared : Compared) {r : Tally} → compared ≡ compared_of bytes → Counted slots compared r → Agreeing 1 r
 unfolding compared_of

@@ -1,17 +1,17 @@
 // What is counted of the comparisons.
 #![tactic(auto)]
 
-mod answer;
-
 ghost use Rattle.std.specs.Prelude.{◌≡◌};
-ghost use Rattle.tally.specs.Tally.{sum_of, Nothing, Together, Counted};
+ghost use Rattle.tally.specs.Answer.{end_of};
+ghost use Rattle.tally.specs.Tally.{Together, Counted};
 
-use division::Ending;
+use division::{Cuts, Ending, Refused};
 use readers::Compared;
+use std::ops::Add;
 
 // Runs, their whole slots, the cuts of each reader, how many agreed, how many runs ended alike, and how many ended in each way by
 // the slow reader.
-#[derive(Clone, Copy)]
+#[derive(Clone, Copy, Default)]
 pub struct Tally {
     pub runs: usize,
     pub slots: usize,
@@ -26,68 +26,52 @@ pub struct Tally {
     pub too_long: usize,
 }
 
-// Nothing compared.
-pub fn none() -> Tally
-    ensures { Nothing result }
-{
-    Tally {
-        runs: 0,
-        slots: 0,
-        slow: 0,
-        fast: 0,
-        agreed: 0,
-        alike: 0,
-        empty: 0,
-        waiting: 0,
-        misshapen: 0,
-        uneven: 0,
-        too_long: 0,
-    }
-}
-
-// The sum of two counts.
-fn sum(a: usize, b: usize) -> usize
-    ensures { result ≡ sum_of a b }
-{
-    std::num::wrapping_add_usize(a, b)
-}
-
 // What was counted of some comparisons and of others, together.
-pub fn plus(a: Tally, b: Tally) -> Tally
-    ensures { Together a b result }
-{
-    Tally {
-        runs: sum(a.runs, b.runs),
-        slots: sum(a.slots, b.slots),
-        slow: sum(a.slow, b.slow),
-        fast: sum(a.fast, b.fast),
-        agreed: sum(a.agreed, b.agreed),
-        alike: sum(a.alike, b.alike),
-        empty: sum(a.empty, b.empty),
-        waiting: sum(a.waiting, b.waiting),
-        misshapen: sum(a.misshapen, b.misshapen),
-        uneven: sum(a.uneven, b.uneven),
-        too_long: sum(a.too_long, b.too_long),
+impl Add for Tally {
+    type Output = Tally;
+
+    ghost add_gives = { Together };
+
+    fn add(self, other: Tally) -> Tally {
+        Tally {
+            runs: self.runs.wrapping_add(other.runs),
+            slots: self.slots.wrapping_add(other.slots),
+            slow: self.slow.wrapping_add(other.slow),
+            fast: self.fast.wrapping_add(other.fast),
+            agreed: self.agreed.wrapping_add(other.agreed),
+            alike: self.alike.wrapping_add(other.alike),
+            empty: self.empty.wrapping_add(other.empty),
+            waiting: self.waiting.wrapping_add(other.waiting),
+            misshapen: self.misshapen.wrapping_add(other.misshapen),
+            uneven: self.uneven.wrapping_add(other.uneven),
+            too_long: self.too_long.wrapping_add(other.too_long),
+        }
     }
+}
+
+// How an answer ends: in a division's rest, or in a refusal.
+fn end(answer: Result<Cuts, Refused>) -> Result<Ending, Refused>
+    ensures { result ≡ end_of answer }
+{
+    answer.map(|cuts| cuts.ending)
 }
 
 // What is counted of one comparison.
 pub fn of(slots: usize, compared: Compared) -> Tally
     ensures { Counted slots compared result }
 {
-    let slow = compared.slow;
-    let fast = compared.fast;
+    let slow = end(compared.slow);
     Tally {
         runs: 1,
         slots,
-        slow: readers::count_of(slow),
-        fast: readers::count_of(fast),
+        slow: readers::count_of(compared.slow),
+        fast: readers::count_of(compared.fast),
         agreed: compared.agreed,
-        alike: answer::alike(slow, fast),
-        empty: answer::rest(slow, Ending::Empty),
-        waiting: answer::rest(slow, Ending::Waiting),
-        misshapen: answer::rest(slow, Ending::Misshapen),
-        uneven: answer::uneven(slow),
-        too_long: answer::too_long(slow),
+        alike: usize::from(slow == end(compared.fast)),
+        empty: usize::from(slow == Ok(Ending::Empty)),
+        waiting: usize::from(slow == Ok(Ending::Waiting)),
+        misshapen: usize::from(slow == Ok(Ending::Misshapen)),
+        uneven: usize::from(slow == Err(Refused::Uneven)),
+        too_long: usize::from(slow == Err(Refused::TooLong)),
     }
 }
