@@ -27,14 +27,18 @@ module _ (n r : ℕ) (l : List Held) (v : Covers n r l) where
           let nobody : owners (set l i free) (wadd r o) ≡ 0 = omega (arith, owners_set l i free (wadd r o) (inside_of l i u), flag_true (owner (get_or l i free) u e), flag_false (owns_free (wadd r o)), v.once o h) in
           clash (owner (get_or l j free) u' e') (ap (owns (wadd r o)) (sym (get_or-set_other l i j free free z)) ∙ no_owner (set l i free) (wadd r o) nobody j)
 
-  pub held_place : Tickets l → (o : ℕ) → o < n → (p : ℕ) → in_use (get_or l p free) ≡ true → wsub (get_or l p free).ticket r ≡ o → place_at l (wadd r o) ≡ p
-  unfolding place_at Tickets
-  held_place tickets o h p u e =
+  pub held_here : (o : ℕ) → o < n → (p : ℕ) → (get_or l p free).ticket < wrap → in_use (get_or l p free) ≡ true → wsub (get_or l p free).ticket r ≡ o → place_at l (wadd r o) ≡ p
+  unfolding place_at
+  held_here o h p word u e =
       place_only (λ x. in_use x && eqb x.ticket (wadd r o)) free l p (inside_of l p u)
-      (true_and _ _ u (eq-eqb (get_or l p free).ticket (wadd r o) (on_counter (get_or l p free).ticket r (tickets p) ∙ ap (wadd r) e)))
+      (true_and _ _ u (eq-eqb (get_or l p free).ticket (wadd r o) (on_counter (get_or l p free).ticket r word ∙ ap (wadd r) e)))
       (λ j _ t.
       let (a, b) = and_both (in_use (get_or l j free)) _ t in
       held_once o h p j u e a (ap (λ (x : ℕ). wsub x r) (eqb-true (get_or l j free).ticket (wadd r o) b) ∙ posted_of r o (omega (arith, v.small))))
+
+  pub held_place : Tickets l → (o : ℕ) → o < n → (p : ℕ) → in_use (get_or l p free) ≡ true → wsub (get_or l p free).ticket r ≡ o → place_at l (wadd r o) ≡ p
+  unfolding Tickets
+  held_place tickets o h p u e = held_here o h p (tickets p) u e
 
 -- ---- what keeps an index right
 

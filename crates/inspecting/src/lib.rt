@@ -1,7 +1,9 @@
 // The inspection of a list of held packets: whether it is valid, its first free record, and an index of the records by their slots.
 #![tactic(auto)]
 
-ghost use Rattle.std.specs.Prelude.{◌≡◌, ◌≤◌, length, replicate};
+ghost use Rattle.std.specs.Prelude.{◌≡◌, ◌≤◌, ℕ, true, false, None, is_some, length, replicate};
+ghost use Rattle.ring.specs.Ring.{wsub};
+ghost use Rattle.held.specs.Valid.{valid};
 ghost use Rattle.noting.specs.Survey.{made, surveyed};
 ghost use Rattle.inspecting.specs.Inspection.{Tickets, Shown};
 
@@ -10,8 +12,10 @@ use noting::{Index, Tally};
 
 // A pass over the records, as far as none is refused.
 fn survey(list: &[Held], replied: u32, between: u32, index: &mut Index) -> Option<Tally>
-    requires { (length list.now ≤ 256) × (between ≤ 256) }
-    ensures { (made result index.new ≡ surveyed list.now replied between index.old) × Tickets list.now }
+    requires { (length list.now ≤ 256) × (between ≤ 256) × (index.old ≡ replicate 256 0) }
+    ensures found { made result index.new ≡ surveyed list.now replied between index.old }
+    ensures tickets { is_some result ≡ true → Tickets list.now }
+    ensures refused { result ≡ None → (c : ℕ) → wsub c replied ≡ between → valid c replied list.now ≡ false }
 {
     let mut tally = Tally::new();
     for (i, h) in list.iter().enumerate() {

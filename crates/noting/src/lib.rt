@@ -1,7 +1,7 @@
 // The tally and the index that an inspection of held packets makes: one record noted in both, and the walk along the index.
 #![tactic(auto)]
 
-ghost use Rattle.std.specs.Prelude.{◌≡◌, ◌+◌, ◌*◌, ◌/◌, ◌%◌, ◌<◌, ◌≤◌, ◌==◌, ℕ, List, Option, not, replicate, slice_index, slice_set};
+ghost use Rattle.std.specs.Prelude.{◌≡◌, ◌+◌, ◌*◌, ◌/◌, ◌%◌, ◌^◌, ◌<◌, ◌≤◌, ◌==◌, ℕ, List, Option, not, replicate, slice_index, slice_set};
 ghost use Rattle.noting.specs.Survey.{within_limits, made, unread, noted, chain_of, confirmed, free_in};
 
 use held::{Held, MOST_RECORDS};
@@ -123,7 +123,8 @@ impl Tally {
         index: &mut Index,
     ) -> Option<Tally>
         requires { (self.slots ≤ 5632) × (i < 256) × (between ≤ 256) }
-        ensures { made result index.new ≡ noted i h replied between self index.old }
+        ensures notes { made result index.new ≡ noted i h replied between self index.old }
+        ensures word { h.ticket < 2 ^ 32 }
     {
         if h.is_free() {
             return Some(Tally {

@@ -20,18 +20,18 @@ used c e = omega (arith, e, in_use_some c.args.h (not-false _ (sym c.is_free.ens
 fitting : (c : Else-not-fits_at) → Fitting c.args.h (offset c.args.h.ticket c.args.replied) c.args.between
 fitting c = fits_split c.args.h (offset c.args.h.ticket c.args.replied) c.args.between (sym c.fits_at.ensures ∙ c.if-not-fits_at.false)
 
-pub returns-then-is_free : goal.returns-then-is_free
-returns-then-is_free c = let a = c.args in
+pub returns-then-is_free-clause-notes : goal.returns-then-is_free-clause-notes
+returns-then-is_free-clause-notes c = let a = c.args in
     rw c.or.ensures (note_free a.self a.i a.h a.replied a.between a.index.now (unused_none a.h (not-true _ (sym c.is_free.ensures ∙ c.if-is_free.true))))
 
 pub holds-requires : goal.holds-requires
 holds-requires c = let f = fitting (goal.at.holds-requires c).Else-not-fits_at in omega (arith, f.below, c.requires.2)
 
-pub returns-then-not-fits_at : goal.returns-then-not-fits_at
-returns-then-not-fits_at c = let a = c.args in
+pub returns-then-not-fits_at-clause-notes : goal.returns-then-not-fits_at-clause-notes
+returns-then-not-fits_at-clause-notes c = let a = c.args in
     let o = offset a.h.ticket a.replied in
     let at : o ≡ wsub a.h.ticket a.replied = offset_is a.h.ticket a.replied c.ranges.replied.fits in
-    let some = used (goal.at.returns-then-not-fits_at c).Else-is_free in
+    let some = used (goal.at.returns-then-not-fits_at-clause-notes c).Else-is_free in
     elim c.then-not-fits_at.branch [
       then-not-fits_at-via-then-not-fits_at w ↦ note_unfit a.self a.i a.h a.replied a.between a.index.now some o at (sym c.fits_at.ensures ∙ w.if-not-fits_at.true)
     | then-not-fits_at-via-else-not-fits_at+then-holds w ↦
@@ -46,10 +46,10 @@ enter-requires c = let f = fitting (goal.at.enter-requires c).Else-not-fits_at i
 pub overflow_add-result : goal.overflow_add-result
 overflow_add-result c = record { fits = omega (arith, (fitting (goal.at.overflow_add-result c).Else-not-fits_at).small, c.requires.0) }
 
-pub returns : goal.returns
-returns c = let a = c.args in
+pub returns-clause-notes : goal.returns-clause-notes
+returns-clause-notes c = let a = c.args in
     let o = offset a.h.ticket a.replied in
     let at : o ≡ wsub a.h.ticket a.replied = offset_is a.h.ticket a.replied c.ranges.replied.fits in
     rw c.enter.ensures
-    (note_held a.self a.i a.h a.replied a.between a.index.now (used (goal.at.returns c).Else-is_free) o at (sym c.fits_at.ensures ∙ c.if-not-fits_at.false)
+    (note_held a.self a.i a.h a.replied a.between a.index.now (used (goal.at.returns-clause-notes c).Else-is_free) o at (sym c.fits_at.ensures ∙ c.if-not-fits_at.false)
     (eqb-true _ 0 (not-false _ (sym c.holds.ensures ∙ c.if-holds.false))))
