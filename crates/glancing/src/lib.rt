@@ -3,16 +3,24 @@
 #![tactic(auto)]
 
 ghost use Rattle.std.specs.Prelude.{◌≡◌};
+ghost use Rattle.held.specs.Records.{all_free};
 ghost use Rattle.glancing.specs.Glance.{unheld_tally, Glanced};
 
 use held::{Held, MOST_RECORDS};
 use noting::{Index, Tally};
 
+// Whether all records are free.
+fn all_free(list: &[Held]) -> bool
+    ensures { result ≡ all_free list.now }
+{
+    list.iter().all(|h| h.is_free())
+}
+
 // The tally of a list where no slot lies between the counters: it is valid if it has at most 256 records, all of them free.
 fn unheld_tally(list: &[Held]) -> Option<Tally>
     ensures { result ≡ unheld_tally list.now }
 {
-    if MOST_RECORDS < list.len() || !list.iter().all(|h| h.is_free()) {
+    if MOST_RECORDS < list.len() || !all_free(list) {
         return None;
     }
     Some(Tally {
