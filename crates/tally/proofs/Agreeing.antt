@@ -14,18 +14,18 @@ use Rattle.tally.specs.contracts.TallyDefault
 
 -- the default counts nothing
 pub default_nothing : {r : Tally} → TallyDefault.TheImpl.is_default-value.it r → Nothing r
-default_nothing d = record {
-  runs = d.0;
-  slots = d.1;
-  slow = d.2;
-  fast = d.3;
-  agreed = d.4;
-  alike = d.5;
-  empty = d.6;
-  waiting = d.7;
-  misshapen = d.8;
-  uneven = d.9;
-  too_long = d.10;
+default_nothing (runs, (slots, (slow, (fast, (agreed, (alike, (empty, (waiting, (misshapen, (uneven, too_long)))))))))) = record {
+  runs = runs;
+  slots = slots;
+  slow = slow;
+  fast = fast;
+  agreed = agreed;
+  alike = alike;
+  empty = empty;
+  waiting = waiting;
+  misshapen = misshapen;
+  uneven = uneven;
+  too_long = too_long;
 }
 
 pub nothing_agrees : {r : Tally} → Nothing r → Agreeing 0 r
