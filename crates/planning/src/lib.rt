@@ -29,15 +29,12 @@ fn judge_later(
     ensures { LaterJudged grants.now window.now ring.now first extras later
         pages.old offsets.old pages.new offsets.new result }
 {
-    let mut i: u32 = 0;
-    let mut n = ring::ahead(first, extras + 1);
-    while i < later {
-        let slot = ring::read::<DataSlot>(ring, n);
-        let at = (i + 1) as usize;
+    for i in 0..later {
+        let place = extras + 1 + i;
+        let slot = ring::read::<DataSlot>(ring, ring::ahead(first, place));
+        let at = i as usize + 1;
         offsets[at] = slot.offset;
-        pages[at] = causes::judge_slot(grants, window, slot, sizes[at], extras + 1 + i)?;
-        i += 1;
-        n = ring::ahead(n, 1);
+        pages[at] = causes::judge_slot(grants, window, slot, sizes[at], place)?;
     }
     Ok(())
 }

@@ -3,7 +3,6 @@ use mathlib.Core.Path.{◌≡◌, sym, ap, ◌∙◌}
 use mathlib.Core.List.{List}
 use Prim.Native.Nat.{ℕ, suc, ◌-◌}
 use native.Mathlib.Omega.{arith}
-use lib.ListN.{length-set}
 use Rattle.words.proofs.Word.{no_confusion}
 use Rattle.netif.specs.Slot.{Slot, offset}
 use Rattle.netif.specs.Decode.{data_of}
@@ -12,52 +11,52 @@ use Rattle.grammar.specs.Stages.{outline_of}
 use Rattle.grammar.specs.declared.Outline.{Outline}
 use Rattle.packet.specs.Judge.{own_part, judge_later}
 use Rattle.packet.specs.Stages.{slot_page, slot_part, packet_at}
-use Rattle.packet.specs.declared.Part.{Part}
+use Rattle.answer.specs.declared.Fault.{Fault}
+use Rattle.std.specs.Prelude.{Result}
+use Rattle.std.proofs.lemmas.Result.{err_from_is_err_and}
 use Rattle.packet.proofs.Plans.{slot_bad, slot_at, packet_later, head_of, head_offset, own_of, later_held, parts_held, column_whole, slots_bad, slots_later}
 use Rattle.planning.proofs.judge_slots.Goals as goal
 
 -- what was judged of the first slot is that of its own part
-found : (table window : List ℕ) (o : Outline) (p : List Slot) → o ≡ outline_of o.extras p → (r : Part)
+found : (table window : List ℕ) (o : Outline) (p : List Slot) → o ≡ outline_of o.extras p → (r : Result ℕ Fault)
     → ((s : Slot) → o.head ≡ data_of s → r ≡ slot_part table window 0 s (o.head.size - o.later_bytes)) → r ≡ slot_part table window 0 (first_of p) (own_part o.extras p)
 found table window o p h r judged = judged (first_of p) (head_of o o.extras p h) ∙ ap (slot_part table window 0 (first_of p)) (own_of o o.extras p h)
 
 pub judge_later-requires : goal.judge_later-requires
 judge_later-requires c = let a = c.args in
     let pre = c.requires in (
-      pre.0,
-      omega (arith, pre.1.some, pre.1.few),
-      omega (arith, pre.1.some, pre.1.datas),
-      later_held a.sizes.now _ _ (rw (packet_later a.ring.now a.first a.o.slots a.o.extras pre.1.some) at pre.3),
-      simp length-set pre.5,
-      simp length-set pre.6,
+      omega (arith, pre.0.some, pre.0.few),
+      omega (arith, pre.0.some, pre.0.datas),
+      later_held a.sizes.now _ _ (rw (packet_later a.ring.now a.first a.o.slots a.o.extras pre.0.some) at pre.2),
     )
 
-pub returns-in-Bad : goal.returns-in-Bad
-returns-in-Bad c = let a = c.args in
+pub returns-in_err-pages : goal.returns-in_err-pages
+returns-in_err-pages c = let a = c.args in
     let e = a.o.extras in
     let p = packet_at a.ring.now a.first a.o in
-    let here = found a.grants.now a.window.now a.o p c.requires.1.outline c.judge_slot.result c.judge_slot.ensures in
-    record {
-      verdict = sym (slots_bad a.grants.now a.window.now e p _ _ (slot_bad a.grants.now a.window.now 0 (first_of p) (own_part e p) _ _ (sym c.in-Bad.is ∙ here)));
+    let here = found a.grants.now a.window.now a.o p c.requires.0.outline c.judge_slot.result c.judge_slot.ensures in
+    let x = err_from_is_err_and c.from_residual.result c.from_residual.ensures.1 in
+    rw (x.1, x.2) (record {
+      verdict = sym (slots_bad a.grants.now a.window.now e p _ (slot_bad a.grants.now a.window.now 0 (first_of p) (own_part e p) _ (sym c.in_err-pages.was ∙ here)));
       pages_are = λ h. no_confusion cc;
       offsets_are = λ h. no_confusion cc;
       parts_are = λ h. no_confusion cc;
-    }
+    })
 
-pub returns-in-At : goal.returns-in-At
-returns-in-At c = let a = c.args in
+pub returns : goal.returns
+returns c = let a = c.args in
     let pre = c.requires in
     let o = a.o in
     let e = o.extras in
     let p = packet_at a.ring.now a.first o in
-    let here = found a.grants.now a.window.now o p pre.1.outline c.judge_slot.result c.judge_slot.ensures in
-    let later = packet_later a.ring.now a.first o.slots e pre.1.some in
-    let q = c.in-At.page in
-    let at = slot_at a.grants.now a.window.now 0 (first_of p) (own_part e p) q (sym c.in-At.is ∙ here) in
+    let here = found a.grants.now a.window.now o p pre.0.outline c.judge_slot.result c.judge_slot.ensures in
+    let later = packet_later a.ring.now a.first o.slots e pre.0.some in
+    let q = c.in_ok-pages.field-0 in
+    let at = slot_at a.grants.now a.window.now 0 (first_of p) (own_part e p) q (sym c.in_ok-pages.was ∙ here) in
     let r = c.judge_later.ensures in
     record {
       verdict = r.verdict ∙ ap (judge_later a.grants.now a.window.now (suc e)) (sym later) ∙ sym (slots_later a.grants.now a.window.now e p at.0);
-      pages_are = λ h. column_whole (slot_page a.grants.now) e p _ later a.pages.now _ q (omega (arith, pre.5)) at.1 (r.pages_are h);
-      offsets_are = λ h. column_whole offset e p _ later a.offsets.now _ o.head.offset (omega (arith, pre.6)) (head_offset o e p pre.1.outline) (r.offsets_are h);
-      parts_are = λ h. parts_held a.sizes.now e p _ pre.3 (omega (arith, pre.4)) (own_of o e p pre.1.outline);
+      pages_are = λ h. column_whole (slot_page a.grants.now) e p _ later a.pages.now _ q (omega (arith, c.told-pages)) at.1 (r.pages_are h);
+      offsets_are = λ h. column_whole offset e p _ later a.offsets.now _ o.head.offset (omega (arith, c.told-offsets)) (head_offset o e p pre.0.outline) (r.offsets_are h);
+      parts_are = λ h. parts_held a.sizes.now e p _ pre.2 (omega (arith, c.told-sizes)) (own_of o e p pre.0.outline);
     }
