@@ -22,27 +22,21 @@ const MORE: u16 = 4;
 
 const ERROR: u16 = 65535;
 
-// Writes the pieces of a frame to the pages of the table, in order. All but the last are whole pages: of these the compiler knows the
-// length.
-pub fn scatter(window: &mut [u8], pages: &[u32; MOST], count: usize, frame: &[u8])
-    requires { (count ≤ 16)
-        × (piece_size * count ≤ length frame.now + 4095)
-        × (length frame.now ≤ piece_size * count)
-        × AllUsable (length window.old) (take count pages.now) }
-    ensures { window.new ≡ scatter window.old (take count pages.now) frame.now }
+// Writes the pieces of a frame to pages, in order. All but the last are whole pages: of these the compiler knows the length.
+pub fn scatter(window: &mut [u8], pages: &[u32], frame: &[u8])
+    requires { (piece_size * length pages.now ≤ length frame.now + 4095)
+        × (length frame.now ≤ piece_size * length pages.now)
+        × AllUsable (length window.old) pages.now }
+    ensures { window.new ≡ scatter window.old pages.now frame.now }
 {
-    let mut i: usize = 0;
-    while i + 1 < count {
-        let a = PIECE * i;
-        let b = a + PIECE;
-        grant::write(window, pages[i], &frame[a..b]);
-        i += 1;
+    let Some((last, whole)) = pages.split_last() else {
+        return;
+    };
+    for (i, page) in whole.iter().enumerate() {
+        let start = PIECE * i;
+        grant::write(window, *page, &frame[start..start + PIECE]);
     }
-    if i < count {
-        let a = PIECE * i;
-        let b = frame.len();
-        grant::write(window, pages[i], &frame[a..b]);
-    }
+    grant::write(window, *last, &frame[PIECE * whole.len()..]);
 }
 
 // The flags of a reply, by whether others follow it.
@@ -69,8 +63,7 @@ pub fn reply_pieces(ring: &mut Page, first: u32, count: u32, frame: &[u8])
     ensures { ring.new ≡ with_slots request_width request_count ring.old first
         (piece_replies (receive_slots ring.old first count) frame.now) }
 {
-    let mut i: u32 = 0;
-    while i < count {
+    for i in 0..count {
         let status = lengths::piece_of(frame.len(), i as usize) as u16;
         reply(
             ring,
@@ -78,7 +71,6 @@ pub fn reply_pieces(ring: &mut Page, first: u32, count: u32, frame: &[u8])
             reply_flags(i + 1 < count),
             status,
         );
-        i += 1;
     }
 }
 
@@ -88,9 +80,7 @@ pub fn reply_errors(ring: &mut Page, first: u32, count: u32)
     ensures { ring.new ≡ with_slots request_width request_count ring.old first
         (error_replies (receive_slots ring.old first count)) }
 {
-    let mut i: u32 = 0;
-    while i < count {
+    for i in 0..count {
         reply(ring, ring::ahead(first, i), 0, ERROR);
-        i += 1;
     }
 }

@@ -45,7 +45,7 @@ fn post_pages(
     if posting::free(ring, read) < slots {
         return Err(Refusal::NoSlots);
     }
-    pieces::scatter(window, &pages, count as usize, frame);
+    pieces::scatter(window, &pages[..count as usize], frame);
     let notify = posting::put_packet(ring, gso, references, count, frame);
     Ok(Posted { slots, notify })
 }

@@ -4,9 +4,10 @@ use mathlib.Core.Logic.{⊎_elim}
 use mathlib.Core.List.{List, [], ◌∷◌, ◌++◌, append_assoc}
 use Prim.Native.Nat.{ℕ, zero, suc, ◌+◌, ◌-◌, ◌*◌, ◌≤◌, ◌<◌, min}
 use native.Mathlib.Omega.{arith}
+use native.Mathlib.Numerals.{add-one}
 use native.Mathlib.Nat.{add-zero}
 use lib.ListN.{length, take, drop, get_or, length-take, length-drop, length-map}
-use lib.Seq.{drop-drop, take_all}
+use lib.Seq.{drop-drop, take_all, take-suc, length-take-le}
 use lib.Dec.{ltb}
 use borrow.Author.Tests.{lt-ltb, le-ltb}
 use Rattle.words.specs.Word.{u16_at, u16_bytes, splice}
@@ -17,41 +18,39 @@ use Rattle.ring.proofs.Ring.{Short, short_map, place_fits, slots_at, slots_lengt
 use Rattle.grant.specs.Grant.{with_page}
 use Rattle.netif.specs.Slot.{Slot, error, request_ident, receive_reply, receive_slot, receive_slots}
 use Rattle.receive.specs.Put.{scatter, reply_flags, piece_replies, error_reply, error_replies}
+use Rattle.receive.specs.Stages.{AllUsable}
 use Rattle.ring.proofs.Replied.{reply_next, reply_stands}
-use Rattle.words.proofs.Lists.{take_min, part_cons, map_at}
+use Rattle.words.proofs.Lists.{map_at}
 
 -- ---- the pieces written
 
--- piece i, as the part of the frame that the code cuts out
-piece_cut : (frame : List ℕ) (a m n : ℕ) → n ≡ min 4096 (length frame - a) → m ≡ n → take m (drop a frame) ≡ take 4096 (drop a frame)
-piece_cut frame a m n h e =
-    let k : m ≡ min 4096 (length (drop a frame)) = e ∙ h ∙ ap (min 4096) (sym (length-drop a frame)) in
-    rw k (take_min 4096 (drop a frame))
+-- one more piece, which begins where the pages before it end
+pub scatter_more : (window pages frame : List ℕ) (p : ℕ) → scatter window (pages ++ (p ∷ [])) frame ≡ with_page (scatter window pages frame) p (take 4096 (drop (4096 * length pages) frame))
+scatter_more window [] frame p = refl
+scatter_more window (q ∷ l) frame p =
+    let w = with_page window q (take 4096 frame) in
+    let z : 4096 + 4096 * length l ≡ 4096 * suc (length l) = omega arith in
+    scatter_more w l (drop 4096 frame) p
+    ∙ ap (λ (x : List ℕ). with_page (scatter w l (drop 4096 frame)) p (take 4096 x)) (drop-drop (4096 * length l) 4096 frame ∙ ap (λ (x : ℕ). drop x frame) z)
 
--- one more piece
-scatter_next : (window pages frame : List ℕ) (i count : ℕ) → i < count → count ≤ length pages
-    → scatter window (take (count - i) (drop i pages)) (drop (4096 * i) frame)
-    ≡ scatter (with_page window (get_or pages i 0) (take 4096 (drop (4096 * i) frame))) (take (count - (i + 1)) (drop (i + 1) pages)) (drop (4096 * (i + 1)) frame)
-scatter_next window pages frame i count h g =
-    let e : 4096 * i + 4096 ≡ 4096 * (i + 1) = omega arith in
-    ap (λ (l : List ℕ). scatter window l (drop (4096 * i) frame)) (part_cons pages 0 i count h g)
-    ∙ ap (scatter (with_page window (get_or pages i 0) (take 4096 (drop (4096 * i) frame))) (take (count - (i + 1)) (drop (i + 1) pages)))
-    (drop-drop 4096 (4096 * i) frame ∙ ap (λ (x : ℕ). drop x frame) e)
+-- the next page of those that get whole pieces
+pub scatter_next : (window pages frame : List ℕ) (i : ℕ) → i < length pages
+    → scatter window (take (i + 1) pages) frame ≡ with_page (scatter window (take i pages) frame) (get_or pages i 0) (take 4096 (drop (4096 * i) frame))
+scatter_next window pages frame i h =
+    let more : take (i + 1) pages ≡ take i pages ++ (get_or pages i 0 ∷ []) = rw add-one (take-suc pages i 0 h) in
+    ap (λ (l : List ℕ). scatter window l frame) more
+    ∙ scatter_more window (take i pages) frame (get_or pages i 0)
+    ∙ ap (λ (k : ℕ). with_page (scatter window (take i pages) frame) (get_or pages i 0) (take 4096 (drop (4096 * k) frame))) (length-take-le i pages (omega arith))
 
--- one turn of the loop, which cuts the piece out of the frame
-pub scatter_turn : (window next pages frame : List ℕ) (i count n : ℕ) → i < count → count ≤ length pages → n ≡ min 4096 (length frame - 4096 * i)
-    → next ≡ with_page window (get_or pages i 0) (take (4096 * i + n - 4096 * i) (drop (4096 * i) frame))
-    → scatter window (take (count - i) (drop i pages)) (drop (4096 * i) frame) ≡ scatter next (take (count - (i + 1)) (drop (i + 1) pages)) (drop (4096 * (i + 1)) frame)
-scatter_turn window next pages frame i count n h g m e =
-    let piece : take (4096 * i + n - 4096 * i) (drop (4096 * i) frame) ≡ take 4096 (drop (4096 * i) frame) = piece_cut frame (4096 * i) (4096 * i + n - 4096 * i) n m (omega arith) in
-    scatter_next window pages frame i count h g
-    ∙ ap (λ (w : List ℕ). scatter w (take (count - (i + 1)) (drop (i + 1) pages)) (drop (4096 * (i + 1)) frame)) (sym (e ∙ ap (with_page window (get_or pages i 0)) piece))
+-- pages that lie in the window: each of them, and those before the last with the last
+pub usable_at : (n : ℕ) (pages : List ℕ) → AllUsable n pages → (i : ℕ) → i < length pages → 4096 * get_or pages i 0 + 4096 ≤ n
+usable_at n [] u i h = absurd (omega arith)
+usable_at n (p ∷ l) u zero h = u.0
+usable_at n (p ∷ l) u (suc i) h = usable_at n l u.1 i (omega arith)
 
--- no piece is left
-pub scatter_last : (window pages frame : List ℕ) (i count : ℕ) → i ≡ count → scatter window (take (count - i) (drop i pages)) (drop (4096 * i) frame) ≡ window
-scatter_last window pages frame i count h =
-    let none : count - i ≡ 0 = omega arith in
-    ap (λ (k : ℕ). scatter window (take k (drop i pages)) (drop (4096 * i) frame)) none
+pub usable_parts : (n : ℕ) (pages : List ℕ) (p : ℕ) → AllUsable n (pages ++ (p ∷ [])) → AllUsable n pages × (4096 * p + 4096 ≤ n)
+usable_parts n [] p u = (tt, u.0)
+usable_parts n (q ∷ l) p u = let (rest, last) = usable_parts n l p u.1 in ((u.0, rest), last)
 
 -- ---- the replies
 

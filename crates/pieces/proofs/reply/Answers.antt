@@ -17,4 +17,4 @@ put_pair-requires c = omega (arith, c.place-at.ensures, place_fits 8 256 c.args.
 pub returns : goal.returns
 returns c = let a = c.args in
     let id = c.u16_at-id in
-    reply_stored a.ring.now a.n _ _ c.place-at.result id.result a.flags a.status c.requires c.place-at.ensures id.ensures c.reply.ensures c.put_pair.ensures
+    reply_stored a.ring.now a.n _ _ c.place-at.result id.result a.flags a.status (omega arith) c.place-at.ensures id.ensures c.reply.ensures c.put_pair.ensures

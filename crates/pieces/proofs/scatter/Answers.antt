@@ -1,63 +1,61 @@
--- `scatter` meets its contract. The invariant: the window that all pieces make is what the pieces left make of the window now,
--- and the pages left lie in the window. One turn is `scatter_turn`, and so is the last piece.
-use mathlib.Core.Path.{◌≡◌, refl, sym, ap, ◌∙◌}
-use mathlib.Core.List.{List, ◌∷◌}
-use Prim.Native.Nat.{ℕ, ◌+◌, ◌-◌, ◌*◌, ◌≤◌, ◌<◌, min}
-use native.Mathlib.Nat.{sub-zero}
+-- `scatter` meets its contract. One turn is `scatter_next`, and the last piece, all that is left of the frame, `scatter_more`.
+use mathlib.Core.Path.{◌≡◌, sym, ap, ◌∙◌}
+use mathlib.Core.List.{List, [], ◌∷◌, ◌++◌}
+use Prim.Native.Nat.{ℕ, ◌+◌, ◌-◌, ◌*◌, ◌≤◌}
 use native.Mathlib.Omega.{arith}
-use lib.ListN.{length, take, drop, get_or, length-take}
+use lib.ListN.{length, take, drop, get_or, length-take, length-drop}
+use lib.Seq.{take_all}
 use Rattle.grant.specs.Grant.{with_page}
 use Rattle.receive.specs.Put.{scatter}
 use Rattle.receive.specs.Stages.{AllUsable}
-use Rattle.words.proofs.Lists.{part_cons}
-use Rattle.receive.proofs.Pieces.{scatter_turn, scatter_last}
+use Rattle.receive.proofs.Pieces.{scatter_next, scatter_more, usable_at, usable_parts}
 use Rattle.pieces.proofs.scatter.Goals as goal
 
-pub loop-i-init : goal.loop-i-init
-loop-i-init c = (omega arith, refl, rw sub-zero, rw sub-zero c.requires.4)
+-- the pages lie in the window: those before the last, and the last
+parts : (n : ℕ) (pages whole : List ℕ) (last : ℕ) → pages ≡ whole ++ (last ∷ []) → AllUsable n pages → AllUsable n whole × (4096 * last + 4096 ≤ n)
+parts n pages whole last e u = usable_parts n whole last (rw e at u)
 
--- the pages left: the next one and the others
-usable : (window pages : List ℕ) (i count : ℕ) → count ≤ length pages → i < count
-    → AllUsable (length window) (take (count - i) (drop i pages))
-    → AllUsable (length window) (get_or pages i 0 ∷ take (count - (i + 1)) (drop (i + 1) pages))
-usable window pages i count long more h = rw (part_cons pages 0 i count more long) at h
-
--- a turn, from what the window was to what it is after the next piece
-turn : (first window pages frame : List ℕ) (i count n : ℕ) (next : List ℕ) → i < count → count ≤ length pages → n ≡ min 4096 (length frame - 4096 * i)
-    → next ≡ with_page window (get_or pages i 0) (take (4096 * i + n - 4096 * i) (drop (4096 * i) frame))
-    → scatter first (take count pages) frame ≡ scatter window (take (count - i) (drop i pages)) (drop (4096 * i) frame)
-    → scatter first (take count pages) frame ≡ scatter next (take (count - (i + 1)) (drop (i + 1) pages)) (drop (4096 * (i + 1)) frame)
-turn first window pages frame i count n next more long size written so = so ∙ scatter_turn window next pages frame i count n more long size written
+-- what is left of the frame is the last piece
+ends : (window pages whole frame : List ℕ) (last i : ℕ) (now next : List ℕ) → pages ≡ whole ++ (last ∷ []) → length frame ≤ 4096 * (length whole + 1) → length whole ≤ i
+    → now ≡ scatter window (take i whole) frame → next ≡ with_page now last (take (length frame - 4096 * length whole) (drop (4096 * length whole) frame))
+    → next ≡ scatter window pages frame
+ends window pages whole frame last i now next e few done so written =
+    let rest = drop (4096 * length whole) frame in
+    let piece : take (length frame - 4096 * length whole) rest ≡ take 4096 rest
+    = take_all _ rest (omega (arith, length-drop (4096 * length whole) frame)) ∙ sym (take_all 4096 rest (omega (arith, length-drop (4096 * length whole) frame))) in
+    written
+    ∙ ap (with_page now last) piece
+    ∙ ap (λ (w : List ℕ). with_page w last (take 4096 rest)) (so ∙ ap (λ (l : List ℕ). scatter window l frame) (take_all i whole done))
+    ∙ sym (scatter_more window whole frame last)
+    ∙ ap (λ (l : List ℕ). scatter window l frame) (sym e)
 
 pub write-requires : goal.write-requires
 write-requires c = let a = c.args in
     let l = c.loop-i in
-    let u = usable a.window.now a.pages.now l.i a.count (omega arith) (omega arith) l.invariant.3 in
-    (omega (arith, u.0), omega (arith, length-take (4096 * l.i + 4096 - 4096 * l.i) (drop (4096 * l.i) a.frame.now)))
+    let s = c.in-Some in
+    let u = parts (length a.window.now) a.pages.now s.whole.now s.last.now s.ensures.cases.0 c.requires.2 in
+    (omega (arith, usable_at (length a.window.now) s.whole.now u.0 l.i c.loop-i-test.true), omega (arith, length-take (4096 * l.i + 4096 - 4096 * l.i) (drop (4096 * l.i) a.frame.now)))
 
 pub loop-i-preserved : goal.loop-i-preserved
 loop-i-preserved c = let a = c.args in
     let l = c.loop-i in
-    let u = usable a.window.now a.pages.now l.i a.count (omega arith) (omega arith) l.invariant.3 in
-    (omega arith, omega arith, turn a.window.now l.window a.pages.now a.frame.now l.i a.count 4096 _ (omega arith) (omega arith) (omega (arith, c.requires.2)) c.write.ensures l.invariant.2, u.1)
+    let whole = c.in-Some.whole.now in
+    let size : 4096 * l.i + 4096 - 4096 * l.i ≡ 4096 = omega arith in
+    c.write.ensures
+    ∙ ap (λ (n : ℕ). with_page l.window (get_or whole l.i 0) (take n (drop (4096 * l.i) a.frame.now))) size
+    ∙ ap (λ (w : List ℕ). with_page w (get_or whole l.i 0) (take 4096 (drop (4096 * l.i) a.frame.now))) l.invariant
+    ∙ sym (scatter_next a.window.now whole a.frame.now l.i c.loop-i-test.true)
 
-pub write-requires-then-i-count : goal.write-requires-then-i-count
-write-requires-then-i-count c = let a = c.args in
-    let l = c.loop-i in
-    let u = usable a.window.now a.pages.now l.i a.count (omega arith) (omega arith) l.invariant.3 in
-    (omega (arith, u.0), omega (arith, c.requires.3, length-take (length a.frame.now - 4096 * l.i) (drop (4096 * l.i) a.frame.now)))
+pub write-requires-2 : goal.write-requires-2
+write-requires-2 c = let a = c.args in
+    let s = c.in-Some in
+    let u = parts (length a.window.now) a.pages.now s.whole.now s.last.now s.ensures.cases.0 c.requires.2 in
+    let k = 4096 * length s.whole.now in
+    (omega (arith, u.1), omega (arith, s.ensures.cases.1, length-take (length a.frame.now - k) (drop k a.frame.now)))
 
-pub returns-then-i-count : goal.returns-then-i-count
-returns-then-i-count c = let a = c.args in
+pub returns : goal.returns
+returns c = let a = c.args in
     let l = c.loop-i in
-    let pages = a.pages.now in
-    let frame = a.frame.now in
-    let n = length frame - 4096 * l.i in
-    let size : n ≡ 4096 * l.i + n - 4096 * l.i = omega arith in
-    let last = c.write-then-i-count.ensures ∙ ap (λ (x : ℕ). with_page l.window (get_or pages l.i 0) (take x (drop (4096 * l.i) frame))) size in
-    sym (turn a.window.now l.window pages frame l.i a.count n _ (omega arith) (omega arith) (omega (arith, c.requires.3)) last l.invariant.2 ∙ scatter_last _ pages frame (l.i + 1) a.count (omega arith))
-
-pub returns-else-i-count : goal.returns-else-i-count
-returns-else-i-count c = let a = c.args in
-    let l = c.loop-i in
-    sym (l.invariant.2 ∙ scatter_last l.window a.pages.now a.frame.now l.i a.count (omega arith))
+    let s = c.in-Some in
+    ends a.window.now a.pages.now s.whole.now a.frame.now s.last.now l.i l.window _ s.ensures.cases.0 (omega (arith, s.ensures.cases.1)) c.loop-i-test.false l.invariant
+    c.write-2.ensures
