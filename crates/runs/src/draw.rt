@@ -10,7 +10,7 @@ const MODULUS: u64 = 2147483647;
 pub fn next(x: u32) -> u32
     ensures { result ≡ drawn_after x }
 {
-    (FACTOR * (x as u64) % MODULUS) as u32
+    (FACTOR * u64::from(x) % MODULUS) as u32
 }
 
 // The first number of a run.
@@ -24,9 +24,7 @@ pub fn first(number: u32) -> u32
 pub fn share(x: u32, most: u8) -> u32
     ensures { result ≤ most }
 {
-    let y = x % (2 * (most as u32) + 1);
-    if y < most as u32 {
-        return y + 1;
-    }
-    0
+    let most = u32::from(most);
+    let y = x % (2 * most + 1);
+    if y < most { y + 1 } else { 0 }
 }

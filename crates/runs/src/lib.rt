@@ -4,45 +4,31 @@
 
 mod draw;
 
-ghost use Rattle.std.specs.Prelude.{◌≡◌, ◌+◌, ◌*◌, ◌/◌, ◌%◌, ◌<◌, ◌≤◌, length, take, if◌then◌else◌};
-ghost use Rattle.words.specs.Word.{splice};
-ghost use Rattle.ring.specs.Ring.{page_size, rsp_prod};
-ghost use Rattle.netif.specs.Slot.{slot_width, slot_count, transmit_slot};
+ghost use Rattle.std.specs.Prelude.{◌≡◌, ◌+◌, ◌*◌, ◌/◌, ◌%◌, ◌≤◌, length, take, if◌then◌else◌};
+ghost use Rattle.ring.specs.Ring.{rsp_prod};
+ghost use Rattle.netif.specs.Slot.{slot_width, slot_count};
 ghost use Rattle.runs.specs.Stored.{Taken};
 
 use netif::DataSlot;
+use ring::{Page, RingSlot};
 
 const RSP_PROD: usize = 8;
 
 // The counter at which a stored ring was left: all slots consumed have their replies.
-pub fn counter(page: &[u8; 4096]) -> u32
+pub fn counter(page: &Page) -> u32
     ensures { result ≡ rsp_prod page.now }
 {
     words::u32_at(page, RSP_PROD)
 }
 
-// Copies slot n of a page to slot i of a run.
-fn take_slot(page: &[u8], n: u32, run: &mut [u8], i: usize)
-    requires { (length page.now ≡ page_size) × (i < slot_count) × (length run.old ≡ slot_width * slot_count) }
-    ensures { run.new ≡ splice run.old (slot_width * i) (transmit_slot page.now n) }
-{
-    let a = DataSlot::WIDTH * i;
-    let b = a + DataSlot::WIDTH;
-    copying::copy(
-        ring::slot(page, DataSlot::WIDTH, DataSlot::COUNT, n),
-        &mut run[a..b],
-    );
-}
-
 // Copies so many slots of a page, from a counter on, to the front of a run.
-pub fn take(page: &[u8], from: u32, slots: u32, run: &mut [u8])
-    requires { (length page.now ≡ page_size) × (slots ≤ slot_count) × (length run.old ≡ slot_width * slot_count) }
+pub fn take(page: &Page, from: u32, slots: u32, run: &mut [u8])
+    requires { (slots ≤ slot_count) × (length run.old ≡ slot_width * slot_count) }
     ensures { Taken page.now from slots run.new }
 {
-    let mut k: u32 = 0;
-    while k < slots {
-        take_slot(page, ring::ahead(from, k), run, k as usize);
-        k += 1;
+    for k in 0..slots {
+        let slot = ring::slot::<DataSlot>(page, ring::ahead(from, k));
+        words::put_bytes(run, DataSlot::WIDTH * (k as usize), slot);
     }
 }
 
@@ -62,28 +48,18 @@ pub struct Due {
     pub later: u32,
 }
 
-// A bit as a number.
-fn bit(yes: bool) -> u8
-    ensures { (result ≡ (if yes then 1 else 0)) × (result ≤ 1) }
-{
-    if yes {
-        return 1;
-    }
-    0
-}
-
 // The low flags of a data slot: bit 2 says that more data follows, and bit 3 that an extra does.
 fn data_flags(drawn: u8, more: bool, extra: bool) -> u8
     ensures { result ≡ 16 * (drawn / 16) + 8 * (if extra then 1 else 0) + 4 * (if more then 1 else 0) + drawn % 4 }
 {
-    16 * (drawn / 16) + 8 * bit(extra) + 4 * bit(more) + drawn % 4
+    16 * (drawn / 16) + 8 * u8::from(extra) + 4 * u8::from(more) + drawn % 4
 }
 
 // The flags of an extra: bit 0 says that another follows.
 fn extra_flags(drawn: u8, another: bool) -> u8
     ensures { result ≡ 2 * (drawn / 2) + (if another then 1 else 0) }
 {
-    2 * (drawn / 2) + bit(another)
+    2 * (drawn / 2) + u8::from(another)
 }
 
 // Draws a slot's bytes, of which the first is at most 3; the number drawn last.
@@ -136,22 +112,14 @@ fn put_next(run: &mut [u8], at: usize, due: Due, sound: bool, setting: Setting) 
         if sound {
             put_extra(run, at, 0 < extras);
         }
-        return Due {
-            drawn: due.drawn,
-            extras,
-            later: due.later,
-        };
+        return Due { extras, ..due };
     }
     if 0 < due.later {
         let later = due.later - 1;
         if sound {
             put_data(run, at, 0 < later, false);
         }
-        return Due {
-            drawn: due.drawn,
-            extras: 0,
-            later,
-        };
+        return Due { later, ..due };
     }
     let fresh = packet(due.drawn, setting);
     if sound {
@@ -167,12 +135,7 @@ fn put_slot(run: &mut [u8], i: usize, due: Due, setting: Setting) -> Due
     let at = DataSlot::WIDTH * i;
     let x = draw::next(put_drawn(run, at, due.drawn));
     let sound = setting.flaws <= x % 256;
-    let owed = Due {
-        drawn: x,
-        extras: due.extras,
-        later: due.later,
-    };
-    put_next(run, at, owed, sound, setting)
+    put_next(run, at, Due { drawn: x, ..due }, sound, setting)
 }
 
 // Lays so many slots.
@@ -184,10 +147,8 @@ fn put_slots(run: &mut [u8], slots: usize, x: u32, setting: Setting)
         extras: 0,
         later: 0,
     };
-    let mut i: usize = 0;
-    while i < slots {
+    for i in 0..slots {
         due = put_slot(run, i, due, setting);
-        i += 1;
     }
 }
 

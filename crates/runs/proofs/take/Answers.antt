@@ -1,5 +1,5 @@
--- `stored::take` meets its contract. The invariant: the slots passed stand in the run, and its length stays.
-use Rattle.std.proofs.Common.{◌≡◌, ℕ, ◌+◌, ◌*◌, ◌<◌, ◌≤◌, List, length, take, drop, sym, ◌∙◌, subst, arith, length-drop, length-take, get_or-drop, get_or-take, ext_get_or, rules, below_none, below_more}
+-- `runs::take` meets its contract. A slot that is written stands in the run, and those before it stay.
+use Rattle.std.proofs.Common.{◌≡◌, ℕ, ◌+◌, ◌*◌, ◌<◌, ◌≤◌, List, length, take, drop, sym, ap, ◌∙◌, subst, arith, length-drop, length-take, get_or-drop, get_or-take, ext_get_or, below_none, below_more}
 use Rattle.words.specs.Word.{splice}
 use Rattle.words.proofs.Word.{splice_length, splice_before, splice_inside, part_same}
 use Rattle.ring.specs.Ring.{wadd}
@@ -47,13 +47,16 @@ unfolding Taken
 taken-all page from i n run h all k lt = all k (omega arith)
 
 pub loop-k-init : goal.loop-k-init
-loop-k-init c = (search rules, search rules, taken_none _ _ _)
+loop-k-init c = taken_none _ _ _
+
+pub put_bytes-requires : goal.put_bytes-requires
+put_bytes-requires c = omega (arith, ap length c.slot-slot.ensures, slot_length slot_width slot_count (omega arith) c.args.page.now (omega arith) c.ahead.result)
 
 pub loop-k-preserved : goal.loop-k-preserved
 loop-k-preserved c = let a = c.args in
     let l = c.loop-k in
-    let e = c.take_slot.ensures in
-    (omega arith, search rules, subst (Taken a.page.now a.from (l.k + 1)) (sym e) (taken_more a.page.now a.from l.k _ l.run (omega arith) (omega arith) c.ahead.ensures l.invariant.2))
+    let e = c.put_bytes.ensures ∙ ap (splice l.run (slot_width * l.k)) c.slot-slot.ensures in
+    subst (Taken a.page.now a.from (l.k + 1)) (sym e) (taken_more a.page.now a.from l.k _ l.run (omega arith) (omega arith) c.ahead.ensures l.invariant)
 
 pub returns : goal.returns
-returns c = taken-all _ _ c.loop-k.k _ _ (omega arith) c.loop-k.invariant.2
+returns c = taken-all _ _ c.loop-k.k _ _ (omega arith) c.loop-k.invariant
