@@ -28,7 +28,7 @@ fn read_rest(
     more: bool,
     sizes: &mut [u16; 18],
 ) -> Result<Outline, Unfinished>
-    requires { (posted ≤ 256) × AfterExtras page.now first posted more extras }
+    requires { AfterExtras page.now first posted more extras }
     ensures { FrontRead (transmit_slots page.now first posted) sizes.old sizes.new result }
 {
     let later = scanning::read_later(page, first, posted, extras.count, more, sizes)?;
@@ -50,7 +50,7 @@ pub fn read(
     posted: u32,
     sizes: &mut [u16; 18],
 ) -> Result<Outline, Unfinished>
-    requires { (1 ≤ posted) × (posted ≤ 256) }
+    requires { 1 ≤ posted }
     ensures { FrontRead (transmit_slots page.now first posted) sizes.old sizes.new result }
 {
     let head = ring::read::<DataSlot>(page, first);

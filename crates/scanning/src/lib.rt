@@ -21,7 +21,7 @@ pub fn read_extras(
     posted: u32,
     announced: bool,
 ) -> Result<Extras, Unfinished>
-    requires { (1 ≤ posted) × (posted ≤ 256) }
+    requires { 1 ≤ posted }
     ensures { ExtrasRead page.now first posted announced result }
 {
     if !announced {
@@ -56,7 +56,7 @@ pub fn read_later(
     announced: bool,
     sizes: &mut [u16; 18],
 ) -> Result<Later, Unfinished>
-    requires { (posted ≤ 256) × (extras + 1 ≤ posted) × (within 1 extras ≡ true) }
+    requires { (extras + 1 ≤ posted) × (within 1 extras ≡ true) }
     ensures { LaterRead page.now first posted extras announced sizes.old sizes.new result }
 {
     let mut sum = 0;

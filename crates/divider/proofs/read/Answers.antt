@@ -12,15 +12,12 @@ use Rattle.divider.proofs.read.Goals.{After-extra_follows-announced}
 -- what the first slot says of the rest
 head : (c : After-extra_follows-announced) → divide (transmit_slots c.args.page.now c.args.first c.args.posted)
     ≡ scan (behind c.args.page.now c.args.first c.args.posted 1) 1 0 c.extra_follows-announced.result c.more_data-more.result
-head c =
-    head_read c.args.page.now c.args.first c.args.posted c.read-head.result _ _ c.requires.0 c.read-head.ensures c.extra_follows-announced.ensures c.more_data-more.ensures
+head c = head_read c.args.page.now c.args.first c.args.posted c.read-head.result _ _ c.requires c.read-head.ensures c.extra_follows-announced.ensures c.more_data-more.ensures
 
 pub read_rest-requires : goal.read_rest-requires
-read_rest-requires c = let a = c.args in (
-  c.requires.1,
-  after_extras a.page.now a.first a.posted _ _ _ (head (goal.at.read_rest-requires c).After-extra_follows-announced)
-      (no_extras a.page.now a.first a.posted _ c.if-not-announced.true c.requires.0),
-)
+read_rest-requires c = let a = c.args in
+    after_extras a.page.now a.first a.posted _ _ _ (head (goal.at.read_rest-requires c).After-extra_follows-announced)
+    (no_extras a.page.now a.first a.posted _ c.if-not-announced.true c.requires)
 
 pub returns-in_err-extras : goal.returns-in_err-extras
 returns-in_err-extras c =
@@ -29,4 +26,4 @@ returns-in_err-extras c =
 
 pub read_rest-requires-2 : goal.read_rest-requires-2
 read_rest-requires-2 c = let a = c.args in
-    (c.requires.1, after_extras a.page.now a.first a.posted _ _ _ (head (goal.at.read_rest-requires-2 c).After-extra_follows-announced) c.in_ok-extras.ensures)
+    after_extras a.page.now a.first a.posted _ _ _ (head (goal.at.read_rest-requires-2 c).After-extra_follows-announced) c.in_ok-extras.ensures

@@ -7,11 +7,11 @@ use Rattle.divider.proofs.read_rest.Goals as goal
 pub returns-in_err-later : goal.returns-in_err-later
 returns-in_err-later c =
     let p = err_from_is_err_and c.from_residual.result c.from_residual.ensures.1 in
-    rw (p.1, p.2) (read_unfinished _ _ _ _ (c.requires.1.rest ∙ c.in_err-later.ensures.0))
+    rw (p.1, p.2) (read_unfinished _ _ _ _ (c.requires.rest ∙ c.in_err-later.ensures.0))
 
 pub returns : goal.returns
 returns c = let a = c.args in
-    let p = c.requires.1 in
+    let p = c.requires in
     let r = c.in_ok-later.later in
     let e = c.in_ok-later.ensures in
     read_whole a.page.now a.first a.posted r.count a.extras.count e.read.few c.read.result r.sum a.extras.gso_size a.extras.gso_type _ _

@@ -47,7 +47,7 @@ module _ (page : List ℕ) (first posted count : ℕ) (announced : Bool)
         ∙ (λ i. scan (behind page first posted (count + 1)) 1 (one i) (another i) more)
 
 pub returns-then-not-announced : goal.returns-then-not-announced
-returns-then-not-announced c = no_extras c.args.page.now c.args.first c.args.posted c.args.announced c.if-not-announced.true c.requires.0
+returns-then-not-announced c = no_extras c.args.page.now c.args.first c.args.posted c.args.announced c.if-not-announced.true c.requires
 
 pub returns-then-count-posted : goal.returns-then-count-posted
 returns-then-count-posted c = let a = c.args in

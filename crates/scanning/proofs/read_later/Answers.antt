@@ -73,7 +73,7 @@ returns-then-not-announced c = let a = c.args in
     let none = c.if-not-announced.true in
     record {
       read = record { few = omega arith; table = sym (splice_none _ 1) };
-      rest = ap (scan (behind a.page.now a.first a.posted (a.extras + 1)) 1 a.extras false) none ∙ nothing_owed _ 1 a.extras c.requires.2;
+      rest = ap (scan (behind a.page.now a.first a.posted (a.extras + 1)) 1 a.extras false) none ∙ nothing_owed _ 1 a.extras c.requires.1;
       sum = refl;
     }
 
@@ -90,7 +90,7 @@ loop-count-init c = let a = c.args in
 -- in each turn the limit allows one more
 module _ (c : In-loop-count) where
   allowed : within (c.loop-count.count + 1) c.args.extras ≡ true
-  allowed = within_most (c.loop-count.count + 1) c.args.extras (omega arith) (within_extras 1 c.args.extras c.requires.2)
+  allowed = within_most (c.loop-count.count + 1) c.args.extras (omega arith) (within_extras 1 c.args.extras c.requires.1)
 
 pub returns-then-i-posted : goal.returns-then-i-posted
 returns-then-i-posted c = let a = c.args in
