@@ -2,11 +2,10 @@
 -- as they are then, and what the definition makes of it all is what it makes of what is left.
 use mathlib.Core.Path.{◌≡◌, refl, sym, ap, ◌∙◌}
 use mathlib.Core.List.{List}
-use mathlib.Core.Bool.{true}
+use mathlib.Core.Bool.{true, false}
 use Prim.Native.Nat.{ℕ, ◌+◌, ◌-◌, ◌*◌, ◌%◌, ◌≤◌, ◌<◌}
 use native.Mathlib.Omega.{arith}
 use lib.ListN.{length, get_or, set, length-set}
-use borrow.Author.Tests.{eq-eqb, ne_eqb}
 use Rattle.words.proofs.Word.{clash}
 use Rattle.ring.specs.Ring.{wrap, wadd, wsub}
 use Rattle.ring.proofs.Counters.{posted_of, wadd_wadd, wadd_zero, behind_by, moved_on}
@@ -20,7 +19,6 @@ use Rattle.held.proofs.Walk.{sound_short, walked_start, covers_next}
 use Rattle.inspecting.specs.Inspection.{Stands, Tickets, Indexed}
 use Rattle.inspecting.proofs.Indexing.{held_place, tickets_set, stands_freed}
 use Rattle.transmit.specs.Take.{replies_to, replies_for}
-use Rattle.transmit.proofs.Cases.{to_length}
 use Rattle.leaving.specs.Left.{Left}
 
 module _ (n r : ℕ) (l₀ : List Held) (index page₀ : List ℕ) where
@@ -29,7 +27,6 @@ module _ (n r : ℕ) (l₀ : List Held) (index page₀ : List ℕ) where
   c = wadd r n
 
   pub record Goes (at : ℕ) (l : List Held) (page : List ℕ) : Type 0 where
-    pub size : length page ≡ 4096
     pub same : length l ≡ length l₀
     pub least : at ≤ n
     pub count : between c (wadd r at) ≡ n - at
@@ -50,12 +47,11 @@ module _ (n r : ℕ) (l₀ : List Held) (index page₀ : List ℕ) where
     unfolding between
     apart = posted_of r n (omega (arith, cover.small))
 
-    pub goes_start : r < wrap → length page₀ ≡ 4096 → Goes 0 l₀ page₀
-    goes_start h size =
+    pub goes_start : r < wrap → Goes 0 l₀ page₀
+    goes_start h =
         let z : wadd r 0 ≡ r = wadd_zero r h in
         let m : n - 0 ≡ n = omega arith in
         record {
-          size = size;
           same = refl;
           least = omega arith;
           count = rw (z, m) apart;
@@ -133,14 +129,12 @@ module _ (n r : ℕ) (l₀ : List Held) (index page₀ : List ℕ) where
             pub goes_counts : (x.slots ≤ 256) × (x.extras < x.slots)
             goes_counts = (rw here (sound_short l w.sound p oldest.used), sound_extras x counts)
 
-            pub goes_waits : x.finished ≡ 0 → Left (release n r l₀) r page₀ at l page
-            unfolding is_finished
-            goes_waits f = ends (settle_nothing c (wadd r at) l (rw (is, eq-eqb x.finished 0 f) refl))
+            pub goes_waits : is_finished x ≡ false → Left (release n r l₀) r page₀ at l page
+            goes_waits f = ends (settle_nothing c (wadd r at) l (rw is f))
 
-            module _ (f : x.finished ≡ 0 → ⊥) where
+            module _ (f : is_finished x ≡ true) where
               fin : is_finished (record_at l (wadd r at)) ≡ true
-              unfolding is_finished
-              fin = rw (is, ne_eqb x.finished 0 f) refl
+              fin = rw is f
 
               found : Found l (wadd r at)
               found = found_finished l (wadd r at) fin
@@ -172,7 +166,6 @@ module _ (n r : ℕ) (l₀ : List Held) (index page₀ : List ℕ) where
                   let rest : n - at - x.slots ≡ n - (at + x.slots) = omega arith in
                   let eq : (record_at l (wadd r at)).slots ≡ x.slots = ap (λ (y : Held). y.slots) is in
                   record {
-                    size = to_length page w.size (wadd r at) x.slots x.extras x.status;
                     same = length-set l p free ∙ w.same;
                     least = goes_within;
                     count = rw (← next) (behind_by c (wadd r at) x.slots (omega (arith, w.count, fits)) ∙ omega (arith, w.count));

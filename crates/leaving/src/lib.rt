@@ -39,7 +39,7 @@ pub fn leave(
         let at = index.place(offset);
         let h = list[at];
         if !h.is_finished() {
-            break;
+            return offset;
         }
         reply_for(ring, replied, offset, h);
         records::release(list, at);

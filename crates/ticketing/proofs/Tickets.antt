@@ -1,6 +1,7 @@
 -- A ticket by the index: the place that the index has at its offset is that of its record, or it is not held.
-use Rattle.std.proofs.Common.{◌≡◌, ℕ, ◌%◌, ◌<◌, ◌≤◌, Bool, true, false, not, eqb, ◌≢◌, List, length, get_or, set, sym, refl, ap, ◌∙◌, subst, ⊎_elim, arith, eq-eqb, ne_eqb, le-leb}
+use Rattle.std.proofs.Common.{◌≡◌, ℕ, ◌%◌, ◌<◌, ◌≤◌, Bool, true, false, not, eqb, ◌≢◌, List, Option, Some, None, length, get_or, set, sym, refl, ap, ◌∙◌, subst, ⊎_elim, arith, eq-eqb, ne_eqb, le-leb}
 use borrow.Author.Tests.{lt-leb}
+use Rattle.core.specs.Option.{unwrap_or}
 use Rattle.words.proofs.Word.{lt_or_ge}
 use Rattle.ring.specs.Ring.{wrap, wadd, wsub}
 use Rattle.ring.proofs.Counters.{on_counter}
@@ -16,16 +17,16 @@ use Rattle.ticketing.specs.Place.{place_in}
 -- ---- the ways out of a search
 
 module _ (index : List ℕ) (o n : ℕ) where
-  pub find_beyond : n ≤ o → 256 ≡ place_in index o n
+  pub find_beyond : n ≤ o → ◌≡◌ {A = Option ℕ} None (place_in index o n)
   unfolding place_in
   find_beyond h = rw (le-leb n o h) refl
 
   module _ (h : o < n) where
-    pub find_none : get_or index o 0 ≡ 0 → 256 ≡ place_in index o n
+    pub find_none : (get_or index o 0 ≡ 0) → ◌≡◌ {A = Option ℕ} None (place_in index o n)
     unfolding place_in
     find_none e = rw (lt-leb n o h, eq-eqb (get_or index o 0) 0 e) refl
 
-    pub find_some : (get_or index o 0 ≡ 0 → ⊥) → get_or index o 0 % 256 ≡ place_in index o n
+    pub find_some : (get_or index o 0 ≡ 0 → ⊥) → ◌≡◌ {A = Option ℕ} (Some (get_or index o 0 % 256)) (place_in index o n)
     unfolding place_in
     find_some e = rw (lt-leb n o h, ne_eqb (get_or index o 0) 0 e) refl
 
@@ -55,24 +56,25 @@ module _ (n r : ℕ) (l : List Held) (index : List ℕ) (i : Indexed n r l index
   inside_n : (j : ℕ) → in_use (get_or l j free) ≡ true → wsub (get_or l j free).ticket r < n
   inside_n j u = omega (arith, covered.each j u, in_use_some (get_or l j free) u)
 
-  -- what the index has at the ticket's offset
-  module _ (p : ℕ) (e : p ≡ place_in index o n) where
-    pub ticket_none : length l ≤ p → can_finish l t ≡ false
-    unfolding place_in
-    ticket_none h = ⊎_elim
-        (λ k. go k (i.entries o k))
-        (λ k. not_held l r t (λ j u z. omega (arith, inside_n j u)))
-        (lt_or_ge o n)
-      where
-        go : o < n → Stands l r (length l) o (get_or index o 0) → can_finish l t ≡ false
-        go k (Stands.empty q g) = not_held l r t (λ j u z. g j (inside_of l j u) u z)
-        go k (Stands.entered q a b u z) =
-            let some = in_use_some (get_or l q free) u in
-            let y : p ≡ get_or index o 0 % 256 = e ∙ rw (lt-leb n o k, ne_eqb (get_or index o 0) 0 (λ v. omega arith)) refl in
-            absurd (omega (arith, i.few))
+  -- the index has no place at the ticket's offset
+  pub ticket_none : None ≡ place_in index o n → can_finish l t ≡ false
+  unfolding place_in
+  ticket_none e = ⊎_elim
+      (λ k. go k (i.entries o k))
+      (λ k. not_held l r t (λ j u z. omega (arith, inside_n j u)))
+      (lt_or_ge o n)
+    where
+      go : o < n → Stands l r (length l) o (get_or index o 0) → can_finish l t ≡ false
+      go k (Stands.empty q g) = not_held l r t (λ j u z. g j (inside_of l j u) u z)
+      go k (Stands.entered q a b u z) =
+          let some = in_use_some (get_or l q free) u in
+          let y : None ≡ Some (get_or index o 0 % 256) = e ∙ rw (lt-leb n o k, ne_eqb (get_or index o 0) 0 (λ v. omega arith)) refl in
+          absurd cc
 
-    module _ (h : p < length l) where
+  -- the place that the index has there
+  module _ (p : ℕ) (e : Some p ≡ place_in index o n) where
       record There : Type 0 where
+        inside : p < length l
         used : in_use (get_or l p free) ≡ true
         place : place_at l t ≡ p
 
@@ -80,20 +82,25 @@ module _ (n r : ℕ) (l : List Held) (index : List ℕ) (i : Indexed n r l index
       unfolding place_in
       there = ⊎_elim
           (λ k. go k (i.entries o k))
-          (λ k. (let y : p ≡ 256 = e ∙ rw (le-leb n o k) refl in absurd (omega (arith, i.few))))
+          (λ k. (let y : Some p ≡ None = e ∙ rw (le-leb n o k) refl in absurd cc))
           (lt_or_ge o n)
         where
           go : o < n → Stands l r (length l) o (get_or index o 0) → There
-          go k (Stands.empty q g) = let y : p ≡ 256 = e ∙ rw (lt-leb n o k, eq-eqb (get_or index o 0) 0 q) refl in absurd (omega (arith, i.few))
+          go k (Stands.empty q g) = let y : Some p ≡ None = e ∙ rw (lt-leb n o k, eq-eqb (get_or index o 0) 0 q) refl in absurd cc
           go k (Stands.entered q a b u z) =
               let some = in_use_some (get_or l q free) u in
-              let y : p ≡ get_or index o 0 % 256 = e ∙ rw (lt-leb n o k, ne_eqb (get_or index o 0) 0 (λ v. omega arith)) refl in
+              let y : Some p ≡ Some (get_or index o 0 % 256) = e ∙ rw (lt-leb n o k, ne_eqb (get_or index o 0) 0 (λ v. omega arith)) refl in
+              let w : p ≡ get_or index o 0 % 256 = ap (λ (m : Option ℕ). unwrap_or m 0) y in
               let x : q ≡ p = omega (arith, i.few) in
               let f : place_at l (wadd r o) ≡ q = held_place n r l covered i.tickets o k q u z in
               record {
+                inside = omega arith;
                 used = rw x at u;
                 place = ap (place_at l) (on_counter t r word) ∙ f ∙ x;
               }
+
+      pub ticket_inside : p < length l
+      ticket_inside = there.inside
 
       record_is : record_at l t ≡ get_or l p free
       unfolding record_at
@@ -128,6 +135,6 @@ module _ (n r : ℕ) (l : List Held) (index : List ℕ) (i : Indexed n r l index
             covered = covers_join n r (finish l t status) (finish_covers n r l covered t held status);
             counts = each_join (λ x. is_count x.slots x.extras) (finish l t status) (λ j u. (keeps j u).counts);
             statuses = each_join (λ x. is_status x.status) (finish l t status) (λ j u. (keeps j u).status);
-            entries = λ q b. rw (finish_length l t status, ← ticket_finish status) (stands_changed l r (length l) q (get_or index q 0) p (finished_as status (get_or l p free)) h refl refl (i.entries q b));
-            tickets = subst Tickets (ticket_finish status) (tickets_set l p (finished_as status (get_or l p free)) h (i.tickets p) i.tickets);
+            entries = λ q b. rw (finish_length l t status, ← ticket_finish status) (stands_changed l r (length l) q (get_or index q 0) p (finished_as status (get_or l p free)) there.inside refl refl (i.entries q b));
+            tickets = subst Tickets (ticket_finish status) (tickets_set l p (finished_as status (get_or l p free)) there.inside (i.tickets p) i.tickets);
           }
