@@ -1,4 +1,5 @@
 // The program's arguments, and the bytes of its files.
+ghost use Rattle.std.specs.Prelude.{◌≤◌, length};
 ghost use Rattle.lines.specs.Counts.{IsPrefixLen};
 
 use std::env::FillError;
@@ -16,30 +17,26 @@ pub fn arg_count<R: Env>(rt: &R) -> usize {
     usize::MAX
 }
 
-// Puts an argument at the front of a buffer; its length, which is 0 where there is no such argument or no room for it.
-pub fn arg<R: Env>(rt: &R, i: usize, buffer: &mut [u8]) -> usize
-    ensures { IsPrefixLen result buffer.new }
+// An argument, put at the front of a buffer; empty where there is no such argument or no room for it.
+pub fn arg<'a, R: Env>(rt: &R, i: usize, buffer: &'a mut [u8]) -> &'a [u8]
+    ensures { length result.now ≤ length buffer.old }
 {
     match rt.arg(i, buffer) {
-        Ok(n) => n,
-        Err(_) => 0,
+        Ok(n) => &buffer[..n],
+        Err(_) => &[],
     }
 }
 
 // Reads until a buffer is full, the input ends or a read fails; the number of bytes, which are at the buffer's front.
+// Counted by hand: a read itself says how many bytes it brought.
 pub fn read_full<R: Read>(from: &mut R, buffer: &mut [u8]) -> usize
     ensures { IsPrefixLen result buffer.new }
 {
-    let mut done: usize = 0;
+    let mut done = 0;
     while done < buffer.len() {
         match from.read(&mut buffer[done..]) {
-            Ok(n) => {
-                if n == 0 {
-                    break;
-                }
-                done += n;
-            }
-            Err(_) => break,
+            Ok(0) | Err(_) => break,
+            Ok(n) => done += n,
         }
     }
     done

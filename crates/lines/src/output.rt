@@ -1,4 +1,5 @@
 // Where lines are printed.
+use std::fmt::Display;
 use std::io;
 use std::io::Write;
 
@@ -21,17 +22,10 @@ impl<W: Write> Output<W> {
         }
     }
 
-    // A number in decimal digits.
-    pub fn decimal(&mut self, n: u64) {
+    // What `write!` prints.
+    pub fn write_fmt<D: Display + Drop>(&mut self, value: D) {
         if self.failed.is_none() {
-            self.failed = write!(self.to, "{n}").err();
-        }
-    }
-
-    // A number in eight hexadecimal digits.
-    pub fn hex(&mut self, n: u32) {
-        if self.failed.is_none() {
-            self.failed = write!(self.to, "{n:08x}").err();
+            self.failed = self.to.write_fmt(value).err();
         }
     }
 
