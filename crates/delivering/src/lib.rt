@@ -1,7 +1,7 @@
 // The requests that a frame needs: judged, and then refused, or given the frame's pieces and replied to.
 #![tactic(auto)]
 
-ghost use Rattle.std.specs.Prelude.{◌≡◌, false, ◌≤◌, ℕ, List, length, take};
+ghost use Rattle.std.specs.Prelude.{◌≡◌, false, ◌≤◌, ℕ, List, length};
 ghost use Rattle.netif.specs.Slot.{receive_slots};
 ghost use Rattle.grant.specs.Lookup.{write_page};
 ghost use Rattle.answer.specs.Report.{plain_summary};
@@ -13,9 +13,6 @@ use answer::{Fault, Outcome, Summary};
 use netif::Request;
 use ring::Page;
 
-// The cause of a request whose grant is not fit.
-pub const UNFIT: u8 = 4;
-
 // The page that a request names, if its grant is fit to be written.
 pub fn page_of(grants: &[u8], window: &[u8], request: Request) -> Option<u32>
     ensures { result ≡ write_page grants.now window.now request.gref }
@@ -23,31 +20,25 @@ pub fn page_of(grants: &[u8], window: &[u8], request: Request) -> Option<u32>
     grant::fit_to_write(grants, window, request.gref)
 }
 
-// Whether all requests that a frame needs are fit, or the first that is not. The table gets the pages that they name, so that
-// a reference is read once.
+// Whether the requests from a counter on are fit, one for each page of the table, or the first that is not. The table gets the
+// pages that they name, so that a reference is read once.
 fn judge(
     grants: &[u8],
     window: &[u8],
     ring: &Page,
     first: u32,
-    count: u32,
-    pages: &mut [u32; pieces::MOST],
+    pages: &mut [u32],
 ) -> Result<(), Fault>
-    requires { count ≤ 16 }
-    ensures { Judged grants.now window.now (receive_slots ring.now first count)
+    requires { length pages.old ≤ 16 }
+    ensures { Judged grants.now window.now (receive_slots ring.now first (length pages.old))
         pages.new result }
 {
-    let mut i: u32 = 0;
-    while i < count {
-        let request = ring::read::<Request>(ring, ring::ahead(first, i));
-        let Some(page) = page_of(grants, window, request) else {
-            return Err(Fault {
-                cause: UNFIT,
-                place: i,
-            });
-        };
-        pages[i as usize] = page;
-        i += 1;
+    for (i, page) in pages.iter_mut().enumerate() {
+        let request = ring::read::<Request>(ring, ring::ahead(first, i as u32));
+        *page = page_of(grants, window, request).ok_or(Fault {
+            cause: Fault::UNFIT,
+            place: i as u32,
+        })?;
     }
     Ok(())
 }
@@ -76,23 +67,23 @@ pub fn summary_of(slots: u32, total: u32) -> Summary
     }
 }
 
-// Consumes requests that are all fit: the pages of the table get the pieces of the frame.
+// Consumes requests that are all fit: the pages that they name get the pieces of the frame.
 fn deliver(
     window: &mut [u8],
     ring: &mut Page,
     old: u32,
-    count: u32,
-    pages: &[u32; pieces::MOST],
+    pages: &[u32],
     frame: &[u8],
 ) -> Outcome
     requires { (length frame.now ≤ 65535)
-        × (count ≡ needed (length frame.now))
-        × AllUsable (length window.old) (take count pages.now) }
+        × (length pages.now ≡ needed (length frame.now))
+        × AllUsable (length window.old) pages.now }
     ensures { Gives
-        (deliver old ring.old window.old (receive_slots ring.old old count) (take count pages.now) frame.now)
+        (deliver old ring.old window.old (receive_slots ring.old old (length pages.now)) pages.now frame.now)
         result ring.new window.new }
 {
-    pieces::scatter(window, pages, count as usize, frame);
+    let count = pages.len() as u32;
+    pieces::scatter(window, pages, frame);
     pieces::reply_pieces(ring, old, count, frame);
     answer::finish(ring, old, summary_of(count, frame.len() as u32))
 }
@@ -111,9 +102,10 @@ pub fn settle(
         (settle grants.now old ring.old window.old (receive_slots ring.old old count) frame.now)
         result ring.new window.new }
 {
-    let mut pages = [0u32; pieces::MOST];
-    match judge(grants, window, ring, old, count, &mut pages) {
+    let mut table = [0u32; pieces::MOST];
+    let pages = &mut table[..count as usize];
+    match judge(grants, window, ring, old, pages) {
         Err(fault) => refuse(ring, old, count, fault),
-        Ok(()) => deliver(window, ring, old, count, &pages, frame),
+        Ok(()) => deliver(window, ring, old, pages, frame),
     }
 }

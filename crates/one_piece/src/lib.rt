@@ -42,7 +42,7 @@ pub fn settle_one(
             old,
             1,
             Fault {
-                cause: delivering::UNFIT,
+                cause: Fault::UNFIT,
                 place: 0,
             },
         ),

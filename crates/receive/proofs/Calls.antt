@@ -15,7 +15,7 @@ use Rattle.ring.specs.Ring.{slot_place, posted, with_slots}
 use Rattle.ring.proofs.Ring.{slots_length}
 use Rattle.grant.specs.Grant.{with_page}
 use Rattle.grant.specs.Lookup.{write_page}
-use Rattle.std.specs.Prelude.{Some, None}
+use Rattle.std.specs.Prelude.{Some, None, Err}
 use Rattle.grant.proofs.Grant.{receive_transmit, fit_page}
 use Rattle.netif.specs.Slot.{request_ident, request_gref, receive_reply, receive_slot, receive_slots}
 use Rattle.netif.specs.Decode.{request_of}
@@ -24,7 +24,8 @@ use Rattle.answer.specs.Report.{spoiled_report, done_report, plain_summary}
 use Rattle.answer.specs.Effect.{refusal, consume, Gives}
 use Rattle.answer.specs.declared.Queue.{Queue}
 use Rattle.answer.specs.declared.Outcome.{Outcome}
-use Rattle.answer.specs.Verdict.{Verdict, good, bad}
+use Rattle.answer.specs.Verdict.{Verdict, good}
+use Rattle.answer.specs.declared.Fault.{Fault}
 use Rattle.receive.specs.Put.{bad_length, needed, pages_named, scatter, error_replies, piece_replies, refuse, deliver, settle, receive_put}
 use Rattle.receive.specs.Stages.{AllUsable, Judged}
 use Rattle.receive.proofs.Requests.{request_unfit, request_fit, good_usable}
@@ -96,19 +97,19 @@ module _ (table window page : List ℕ) (old : ℕ) (q : Request) (reads : q ≡
 
 -- ---- by what the judge found
 
-module _ (table window page : List ℕ) (old count : ℕ) (pages : List ℕ) (v : Verdict) (judged : Judged table window (receive_slots page old count) pages v) where
-  named : v ≡ good → take count pages ≡ pages_named table (receive_slots page old count)
-  named h = ap (λ (k : ℕ). take k pages) (sym (slots_length 8 256 page count old)) ∙ judged.named h
+module _ (table window page : List ℕ) (old count : ℕ) (pages : List ℕ) (long : length pages ≡ count) (v : Verdict) (judged : Judged table window (receive_slots page old count) pages v) where
+  named : v ≡ good → pages ≡ pages_named table (receive_slots page old count)
+  named h = sym (take_all (length (receive_slots page old count)) pages (omega (arith, slots_length 8 256 page count old))) ∙ judged.named h
 
-  pub good_pages : v ≡ good → AllUsable (length window) (take count pages)
+  pub good_pages : v ≡ good → AllUsable (length window) pages
   good_pages h = rw (named h) (good_usable table window (receive_slots page old count) 0 (sym judged.verdict ∙ h))
 
   module _ (frame : List ℕ) (r : Outcome) (ring' window' : List ℕ) where
-    pub settled_bad : (cause place : ℕ) → v ≡ bad cause place → Gives (refuse old page window (receive_slots page old count) cause place) r ring' window'
+    pub settled_bad : (f : Fault) → v ≡ Err f → Gives (refuse old page window (receive_slots page old count) f.cause f.place) r ring' window'
         → Gives (settle table old page window (receive_slots page old count) frame) r ring' window'
-    settled_bad cause place h d = rw (← judged.verdict, h) d
+    settled_bad f h d = rw (← judged.verdict, h) d
 
-    pub settled_good : v ≡ good → Gives (deliver old page window (receive_slots page old count) (take count pages) frame) r ring' window'
+    pub settled_good : v ≡ good → Gives (deliver old page window (receive_slots page old count) pages frame) r ring' window'
         → Gives (settle table old page window (receive_slots page old count) frame) r ring' window'
     settled_good h d = rw (← judged.verdict, h) (rw (named h) at d)
 

@@ -4,4 +4,4 @@ use Rattle.delivering.proofs.refuse.Goals as goal
 
 pub returns : goal.returns
 returns c = let a = c.args in
-    refused a.old a.count a.ring.now a.cause a.place _ _ _ c.reply_errors.ensures c.spoil.ensures
+    refused a.old a.count a.ring.now a.fault.cause a.fault.place _ _ _ c.reply_errors.ensures c.spoil.ensures

@@ -4,5 +4,5 @@ use Rattle.one_piece.proofs.deliver_one.Goals as goal
 
 pub returns : goal.returns
 returns c = let a = c.args in
-    one_delivered a.old a.ring.now a.window.now a.frame.now c.requires.1 a.page _ _ _ _ c.reply.ensures
+    one_delivered a.old a.ring.now a.window.now a.frame.now c.requires.0 a.page _ _ _ _ c.reply.ensures
     (rw c.summary_of.ensures at c.finish.ensures) c.write.ensures
