@@ -5,12 +5,20 @@ ghost use Rattle.tally.specs.Tally.{Agreeing};
 use crate::line;
 use lines::output::Output;
 use netif::DataSlot;
+use ring::RingSlot;
 use runs::Setting;
 use std::io::Write;
 use tally::Tally;
 
 // The runs of a setting.
 const RUNS: u32 = 512;
+
+// Packets up to the limit, and no flaws.
+const LIMIT: Setting = Setting {
+    later: 17,
+    extras: 4,
+    flaws: 0,
+};
 
 // The comparison on the run of a number.
 fn run(number: u32, setting: Setting) -> Tally
@@ -26,11 +34,9 @@ fn run(number: u32, setting: Setting) -> Tally
 fn runs(first: u32, setting: Setting) -> Tally
     ensures { Agreeing 512 result }
 {
-    let mut all = tally::none();
-    let mut k: u32 = 0;
-    while k < RUNS {
-        all = tally::plus(all, run(first.wrapping_add(k), setting));
-        k += 1;
+    let mut all = Tally::default();
+    for k in 0..RUNS {
+        all = all + run(first.wrapping_add(k), setting);
     }
     all
 }
@@ -39,35 +45,31 @@ fn runs(first: u32, setting: Setting) -> Tally
 fn add<W: Write>(
     out: &mut Output<W>,
     before: Tally,
-    name: &[u8],
+    name: &str,
     first: u32,
-    later: u8,
-    extras: u8,
-    flaws: u32,
+    setting: Setting,
 ) -> Tally
     requires { Agreeing first before × (first ≤ 3072) }
     ensures { Agreeing (first + 512) result }
 {
-    let found = runs(
-        first,
-        Setting {
-            later,
-            extras,
-            flaws,
-        },
-    );
+    let found = runs(first, setting);
     line::setting(out, name, found);
-    tally::plus(before, found)
+    before + found
 }
 
 // The settings whose packets are all within the limit, in FORMAT.md's order.
 fn within<W: Write>(out: &mut Output<W>) -> Tally
     ensures { Agreeing 2048 result }
 {
-    let singles = add(out, tally::none(), b"singles", 0, 0, 0, 0);
-    let extras = add(out, singles, b"extras", 512, 0, 4, 0);
-    let data = add(out, extras, b"data", 1024, 17, 0, 0);
-    add(out, data, b"both", 1536, 17, 4, 0)
+    let none = Setting {
+        later: 0,
+        extras: 0,
+        flaws: 0,
+    };
+    let singles = add(out, Tally::default(), "singles", 0, none);
+    let extras = add(out, singles, "extras", 512, Setting { extras: 4, ..none });
+    let data = add(out, extras, "data", 1024, Setting { later: 17, ..none });
+    add(out, data, "both", 1536, LIMIT)
 }
 
 // All settings: behind those, packets over the limit, slots with flaws, and slots that stay as drawn.
@@ -75,7 +77,21 @@ pub fn all<W: Write>(out: &mut Output<W>) -> Tally
     ensures { Agreeing 3584 result }
 {
     let small = within(out);
-    let over = add(out, small, b"over", 2048, 18, 5, 0);
-    let flawed = add(out, over, b"flawed", 2560, 17, 4, 4);
-    add(out, flawed, b"free", 3072, 17, 4, 256)
+    let beyond = Setting {
+        later: 18,
+        extras: 5,
+        ..LIMIT
+    };
+    let over = add(out, small, "over", 2048, beyond);
+    let flawed = add(out, over, "flawed", 2560, Setting { flaws: 4, ..LIMIT });
+    add(
+        out,
+        flawed,
+        "free",
+        3072,
+        Setting {
+            flaws: 256,
+            ..LIMIT
+        },
+    )
 }

@@ -20,20 +20,18 @@ use tally::Tally;
 fn page<R: Env + Files, W: Write>(rt: &R, out: &mut Output<W>, i: usize) -> Tally
     ensures { Agreeing result.runs result × (result.runs ≤ 1) }
 {
-    let mut name = [0u8; 64];
-    let n = arg(rt, i, &mut name);
-    stored::compare(rt, out, &name[..n])
+    let mut room = [0u8; 64];
+    let name = arg(rt, i, &mut room);
+    stored::compare(rt, out, name)
 }
 
 // The comparison on the pages that all arguments name, of which there are so many with the program's own name.
 fn pages<R: Env + Files, W: Write>(rt: &R, out: &mut Output<W>, count: usize) -> Tally
     ensures { Agreeing result.runs result × (result.runs ≤ count) }
 {
-    let mut all = tally::none();
-    let mut i: usize = 1;
-    while i < count {
-        all = tally::plus(all, page(rt, out, i));
-        i += 1;
+    let mut all = Tally::default();
+    for i in 1..count {
+        all = all + page(rt, out, i);
     }
     all
 }
@@ -42,6 +40,6 @@ fn main(rt: HostRuntime) -> io::Result<()> {
     let mut out = Output::new(io::writer(&rt));
     let stored = pages(&rt, &mut out, arg_count(&rt));
     let made = generated::all(&mut out);
-    line::total(&mut out, tally::plus(stored, made));
+    line::total(&mut out, stored + made);
     out.finish()
 }

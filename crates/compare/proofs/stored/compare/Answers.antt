@@ -15,4 +15,4 @@ one-or-none page = go (leb (posted page (rsp_prod page)) slot_count)
 
 pub returns : goal.returns
 returns g c = let a = c.compare_page.ensures in
-    (agrees_own a, omega (arith, a.runs, one-or-none c.load.new.page))
+    (agrees_own a, omega (arith, a.runs, one-or-none))
