@@ -4,9 +4,9 @@
 ghost use Rattle.std.specs.Prelude.{◌≡◌, ◌≤◌};
 ghost use Rattle.netif.specs.Slot.{transmit_slot, transmit_slots};
 ghost use Rattle.grammar.specs.Divide.{alone};
-ghost use Rattle.grammar.specs.Stages.{FrontRead, AfterExtras};
+ghost use Rattle.grammar.specs.Stages.{sizes_in, FrontRead, AfterExtras};
 
-use grammar::{Extras, Outline, Unfinished};
+use grammar::{Extras, Outline, Part, Unfinished};
 use netif::DataSlot;
 use ring::Page;
 
@@ -26,12 +26,12 @@ fn read_rest(
     posted: u32,
     extras: Extras,
     more: bool,
-    sizes: &mut [u16; 18],
+    parts: &mut [Part; 18],
 ) -> Result<Outline, Unfinished>
     requires { AfterExtras page.now first posted more extras }
-    ensures { FrontRead (transmit_slots page.now first posted) sizes.old sizes.new result }
+    ensures { FrontRead (transmit_slots page.now first posted) (sizes_in parts.old) (sizes_in parts.new) result }
 {
-    let later = scanning::read_later(page, first, posted, extras.count, more, sizes)?;
+    let later = scanning::read_later(page, first, posted, extras.count, more, parts)?;
     Ok(Outline {
         head: ring::read::<DataSlot>(page, first),
         slots: later.count + 1 + extras.count,
@@ -48,17 +48,17 @@ pub fn read(
     page: &Page,
     first: u32,
     posted: u32,
-    sizes: &mut [u16; 18],
+    parts: &mut [Part; 18],
 ) -> Result<Outline, Unfinished>
     requires { 1 ≤ posted }
-    ensures { FrontRead (transmit_slots page.now first posted) sizes.old sizes.new result }
+    ensures { FrontRead (transmit_slots page.now first posted) (sizes_in parts.old) (sizes_in parts.new) result }
 {
     let head = ring::read::<DataSlot>(page, first);
     let more = head.more_data();
     let announced = head.extra_follows();
     if !announced {
-        return read_rest(page, first, posted, Extras::NONE, more, sizes);
+        return read_rest(page, first, posted, Extras::NONE, more, parts);
     }
     let extras = scanning::read_extras(page, first, posted, announced)?;
-    read_rest(page, first, posted, extras, more, sizes)
+    read_rest(page, first, posted, extras, more, parts)
 }

@@ -11,6 +11,7 @@ use Rattle.grammar.specs.declared.Unfinished.TheVariants.{Beginning, Misshapen}
 use Rattle.grammar.specs.declared.Extras.{Extras}
 use Rattle.grammar.specs.declared.Later.{Later}
 use Rattle.grammar.specs.declared.Outline.{Outline}
+use Rattle.grammar.specs.declared.Part.{Part}
 
 -- what is to be known of the packet p with e extras
 unfoldable pub outline_of : ℕ → List Slot → Outline
@@ -26,6 +27,10 @@ outline_of e p = record {
 -- what stands at the front of the slots l
 unfoldable pub front_of : List Slot → Result Outline Unfinished
 front_of l = on_cut (divide l) (λ d e. Ok (outline_of e (take (d + e) l))) (Err Beginning) (Err Misshapen)
+
+-- the sizes of parts
+abbrev pub sizes_in : List Part → List ℕ
+sizes_in parts = map (λ p. p.size) parts
 
 -- the answer is that, and of a whole packet the table holds the later data slots' sizes from the place 1 on; otherwise the
 -- table may hold anything

@@ -45,3 +45,20 @@ pub struct Outline {
     pub gso_size: u16,
     pub gso_type: u8,
 }
+
+// The part of the window that a data slot names: its page, its offset there and its size.
+#[derive(Clone, Copy)]
+pub struct Part {
+    pub page: u32,
+    pub offset: u16,
+    pub size: u16,
+}
+
+impl Part {
+    // A part of no bytes.
+    pub const NONE: Part = Part {
+        page: 0,
+        offset: 0,
+        size: 0,
+    };
+}

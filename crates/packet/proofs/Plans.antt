@@ -3,7 +3,7 @@
 use mathlib.Core.Logic.{◌⊎◌, inl, inr}
 use mathlib.Core.Path.{◌≡◌, refl, sym, ap, ◌∙◌}
 use mathlib.Core.Bool.{Bool, true, false, cond, not}
-use mathlib.Core.List.{List, [], ◌∷◌, map}
+use mathlib.Core.List.{List, [], ◌∷◌, ◌++◌, map, map-append, append_assoc}
 use Prim.Native.Nat.{ℕ, zero, suc, ◌+◌, ◌-◌, ◌≤◌, ◌<◌}
 use native.Mathlib.Omega.{arith}
 use native.Mathlib.Nat.{add_assoc}
@@ -15,7 +15,7 @@ use Rattle.words.proofs.Lists.{map_at}
 use Rattle.words.proofs.Word.{no_confusion}
 use borrow.Author.Tests.{lt-ltb, le-ltb, ne_eqb}
 use Rattle.ring.specs.Ring.{wadd}
-use Rattle.ring.proofs.Ring.{slot_wrap, slots_at, slots_length, slots_drop}
+use Rattle.ring.proofs.Ring.{slot_wrap, slots_at, slots_length, slots_drop, slots_snoc}
 use Rattle.grant.specs.Grant.{in_range, fit_transmit}
 use Rattle.grant.specs.Lookup.{source_of, source_cause}
 use Rattle.std.specs.Prelude.{Result, Ok, Err}
@@ -25,12 +25,14 @@ use Rattle.grant.specs.declared.Unlent.{Unlent}
 use Rattle.netif.specs.Slot.{Slot, gref, offset, size, checksum_blank, data_validated, transmit_slot, transmit_slots}
 use Rattle.netif.specs.Decode.{data_of}
 use Rattle.grammar.specs.Packet.{first_of, later_of, sizes, gso_size_of, gso_type_of}
-use Rattle.grammar.specs.Stages.{outline_of}
+use Rattle.grammar.specs.Stages.{outline_of, sizes_in}
 use Rattle.grammar.specs.declared.Outline.{Outline}
+use Rattle.grammar.specs.declared.Part.{Part}
+use Rattle.std.proofs.lemmas.List.{take_more_set}
 use Rattle.netif.specs.declared.DataSlot.{DataSlot}
 use Rattle.answer.specs.declared.Fault.{Fault}
 use Rattle.packet.specs.Judge.{total_of, own_part, parts, judge_sizes, judge_gso, judge_slot, judge_later, judge_slots, judge}
-use Rattle.packet.specs.Stages.{datas_of, slot_page, part_by, slot_part, SizesOf, later_at, HoldsParts}
+use Rattle.packet.specs.Stages.{datas_of, slot_page, planned, later_plan, plan, part_by, slot_part, SizesOf, later_at}
 
 -- ---- causes 1 and 3
 
@@ -126,17 +128,11 @@ sizes_at [] later h j k = absurd (omega (arith, ap length h, length-map later si
 sizes_at (x ∷ sizes) later h j k =
     rw (add-one j) (sym (get_or-take (length later) sizes j 0 k) ∙ ap (λ (l : List ℕ). get_or l j 0) h ∙ map_at size later j [] 0 k)
 
--- with the first slot's part before them
-pub parts_held : (sizes : List ℕ) (e : ℕ) (p : List Slot) (own : ℕ) → SizesOf sizes (later_of e p) → 0 < length sizes → own ≡ own_part e p → HoldsParts (set sizes 0 own) e p
-unfolding SizesOf HoldsParts parts
-parts_held [] e p own h some is = absurd (omega arith)
-parts_held (x ∷ sizes) e p own h some is = λ i. is i ∷ h i
-
--- which leaves the later ones
-pub later_held : (sizes : List ℕ) (v : ℕ) (later : List Slot) → SizesOf sizes later → SizesOf (set sizes 0 v) later
+-- another first part leaves the later ones
+pub later_held : (t : List Part) (v : Part) (later : List Slot) → SizesOf (sizes_in t) later → SizesOf (sizes_in (set t 0 v)) later
 unfolding SizesOf
 later_held [] v later h = h
-later_held (x ∷ sizes) v later h = h
+later_held (x ∷ t) v later h = h
 
 -- ---- the later data slots, one by one
 
@@ -162,10 +158,10 @@ module _ (table window page : List ℕ) (c extras later i : ℕ) (k : i < later)
 pub later_none : (table window page : List ℕ) (k n m : ℕ) → m ≡ 0 → judge_later table window k (transmit_slots page n m) ≡ good
 later_none table window page k n m h = rw h
 
--- the turn of the loop that judges later data slot i, whose part is r
+-- the turn of the loop that judges later data slot i, whose part has m bytes and is r
 module _ (table window page : List ℕ) (c extras later i : ℕ) (k : i < later) (sizes : List ℕ) (held : SizesOf sizes (later_at page c extras later))
-    (n : ℕ) (wrapped : n ≡ wadd c (extras + 1 + i)) (d : DataSlot) (is : d ≡ data_of (transmit_slot page n))
-    (r : Result ℕ Fault) (judged : (s : Slot) → d ≡ data_of s → r ≡ slot_part table window (extras + 1 + i) s (get_or sizes (i + 1) 0)) where
+    (n : ℕ) (wrapped : n ≡ wadd c (extras + 1 + i)) (d : DataSlot) (is : d ≡ data_of (transmit_slot page n)) (m : ℕ) (entered : m ≡ get_or sizes (i + 1) 0)
+    (r : Result ℕ Fault) (judged : (s : Slot) → d ≡ data_of s → r ≡ slot_part table window (extras + 1 + i) s m) where
   abbrev this : Slot
   this = transmit_slot page (c + (extras + 1) + i)
 
@@ -173,9 +169,10 @@ module _ (table window page : List ℕ) (c extras later i : ℕ) (k : i < later)
   unfolding wadd
   same = ap (transmit_slot page) wrapped ∙ slot_wrap 12 256 page (c + (extras + 1 + i)) refl ∙ ap (transmit_slot page) (sym (add_assoc c (extras + 1) i))
 
-  its_size : get_or sizes (i + 1) 0 ≡ size this
+  its_size : m ≡ size this
   its_size =
-      sizes_at sizes (later_at page c extras later) held i (omega (arith, slots_length 12 256 page later (c + (extras + 1))))
+      entered
+      ∙ sizes_at sizes (later_at page c extras later) held i (omega (arith, slots_length 12 256 page later (c + (extras + 1))))
       ∙ ap size (slots_at 12 256 page later (c + (extras + 1)) i k)
 
   its_part : r ≡ slot_part table window (suc extras + i) this (size this)
@@ -194,12 +191,24 @@ module _ (table window page : List ℕ) (c extras later i : ℕ) (k : i < later)
         ≡ judge_later table window (suc extras + (i + 1)) (transmit_slots page (c + (extras + 1) + (i + 1)) (later - (i + 1)))
     turn_good = later_good table window page c extras later i k at_this.0
 
-    pub turn_page : q ≡ slot_page table (transmit_slot page n)
-    turn_page = at_this.1 ∙ ap (slot_page table) (sym same)
+    its_offset : d.offset ≡ offset this
+    unfolding data_of
+    its_offset = ap (λ (x : DataSlot). x.offset) is ∙ ap offset same
 
-  pub turn_offset : d.offset ≡ offset (transmit_slot page n)
-  unfolding data_of
-  turn_offset = ap (λ (x : DataSlot). x.offset) is
+    turn_part : record { page = q; offset = d.offset; size = m } ≡ later_plan table this
+    turn_part = λ j. record { page = at_this.1 j; offset = its_offset j; size = its_size j }
+
+    -- the part goes into the table behind those before it
+    pub turn_next : (before now : List Part) → take (i + 1) now ≡ take 1 before ++ map (later_plan table) (later_at page c extras i) → i + 1 < length now
+        → take (i + 1 + 1) (set now (i + 1) (record { page = q; offset = d.offset; size = m })) ≡ take 1 before ++ map (later_plan table) (later_at page c extras (i + 1))
+    turn_next before now so_far fits =
+        take_more_set now (i + 1) _ fits
+        ∙ ap (◌++ (record { page = q; offset = d.offset; size = m } ∷ [])) so_far
+        ∙ append_assoc (take 1 before) (map (later_plan table) (later_at page c extras i)) _
+        ∙ ap (take 1 before ++◌)
+        (ap (λ (x : Part). map (later_plan table) (later_at page c extras i) ++ (x ∷ [])) turn_part
+        ∙ sym (map-append (later_plan table) (later_at page c extras i) (this ∷ []))
+        ∙ sym (ap (map (later_plan table)) (slots_snoc 12 256 page i (c + (extras + 1)))))
 
 -- ---- a packet on the page, taken apart
 
@@ -256,21 +265,15 @@ module _ (o : Outline) (e : ℕ) (p : List Slot) (h : o ≡ outline_of e p) wher
   unfolding outline_of
   gso_type_of_lem = ap (λ (x : Outline). x.gso_type) h
 
--- ---- the tables
+-- ---- the plan
 
--- a table with the first place set and the others behind it
-pub column_front : (t : List ℕ) (v : ℕ) (b : List ℕ) (n : ℕ) → 0 < length t → n ≡ suc (length b) → take n (splice (set t 0 v) 1 b) ≡ v ∷ b
-unfolding splice
-column_front [] v b n h e = absurd (omega arith)
-column_front (x ∷ t) v b n h e = rw e (ap (v ∷◌) (take_at b (drop (1 + length b) (v ∷ t)) (length b) refl))
-
--- such a table holds what f says of each data slot
-pub column_whole : (f : Slot → ℕ) (e : ℕ) (p later : List Slot) → later_of e p ≡ later → (t after : List ℕ) (v : ℕ) → 0 < length t → v ≡ f (first_of p)
-    → after ≡ splice (set t 0 v) 1 (map f later) → take (length (datas_of e p)) after ≡ map f (datas_of e p)
-column_whole f e p later h t after v k i w =
-    ap (take (length (datas_of e p))) w
-    ∙ column_front t v (map f later) (length (datas_of e p)) k (ap (λ (l : List Slot). suc (length l)) h ∙ ap suc (sym (length-map later f)))
-    ∙ rw (i, h)
+-- the first slot's part stands in the table, and the later ones' behind it
+pub plan_whole : (table : List ℕ) (e : ℕ) (p later : List Slot) → later_of e p ≡ later → (before after : List Part) (v : Part) → 0 < length before → v ≡ planned table (first_of p) (own_part e p)
+    → take (length later + 1) after ≡ take 1 (set before 0 v) ++ map (later_plan table) later → take (length (datas_of e p)) after ≡ plan table e p
+plan_whole table e p later h [] after v some first w = absurd (omega arith)
+plan_whole table e p later h (x ∷ t) after v some first w =
+    let back = sym h in
+    ap (λ (l : List Slot). take (suc (length l)) after) h ∙ ap (λ (n : ℕ). take n after) (sym (add-one (length later))) ∙ w ∙ (λ i. first i ∷ map (later_plan table) (back i))
 
 -- ---- the verdict on all data slots
 

@@ -1,27 +1,24 @@
--- What the functions that judge a packet and gather its frame promise each other. The plan of its parts, which judging makes and gathering
--- carries out, is three tables: for each data slot its page, its offset there and the part's size.
-use Rattle.std.specs.Prelude.{◌≡◌, List, [], ◌∷◌, ◌++◌, map, ℕ, ◌+◌, ◌*◌, ◌≤◌, ◌<◌, suc, length, take, drop, get_or, Result, Ok, Err}
+-- What the functions that judge a packet and gather its frame promise each other. Judging makes the plan of its parts, and gathering
+-- carries it out.
+use Rattle.std.specs.Prelude.{◌≡◌, List, [], ◌∷◌, ◌++◌, map, ℕ, ◌+◌, ◌*◌, ◌≤◌, ◌<◌, suc, length, take, drop, All, Result, Ok, Err}
 use Rattle.grant.specs.Grant.{page_of, page_part}
 use Rattle.netif.specs.Slot.{Slot, gref, size, offset, transmit_slots}
 use Rattle.grammar.specs.Packet.{first_of, later_of}
 use Rattle.answer.specs.declared.Fault.{Fault}
 use Rattle.answer.specs.Verdict.{Verdict, good}
-use Rattle.packet.specs.Judge.{judge_slot, parts, judge_later}
-use Rattle.words.specs.Word.{splice}
+use Rattle.packet.specs.Judge.{own_part, judge_slot, judge_later}
 use Rattle.grammar.specs.Stages.{outline_of}
 use Rattle.grammar.specs.declared.Outline.{Outline}
+use Rattle.grammar.specs.declared.Part.{Part}
 
--- the parts of the window that the tables name, joined
-abbrev pub joined : (window pages offsets sizes : List ℕ) → List ℕ
-joined window [] offsets sizes = []
-joined window (p ∷ ps) [] sizes = []
-joined window (p ∷ ps) (o ∷ os) [] = []
-joined window (p ∷ ps) (o ∷ os) (s ∷ ss) = page_part window p o s ++ joined window ps os ss
+-- parts of the window, joined
+abbrev pub joined : (window : List ℕ) → List Part → List ℕ
+joined window [] = []
+joined window (p ∷ parts) = page_part window p.page p.offset p.size ++ joined window parts
 
--- the first n parts lie in their pages, and those in the window
-unfoldable pub InWindow : (window pages offsets sizes : List ℕ) (n : ℕ) → Type 0
-InWindow window pages offsets sizes n =
-    (i : ℕ) → i < n → (4096 * get_or pages i 0 + 4096 ≤ length window) × (get_or offsets i 0 + get_or sizes i 0 ≤ 4096)
+-- the parts lie in their pages, and those in the window
+abbrev pub InWindow : (window : List ℕ) → List Part → Type 0
+InWindow window parts = All (λ p. (4096 * p.page + 4096 ≤ length window) × (p.offset + p.size ≤ 4096)) parts
 
 -- the data slots of a packet
 abbrev pub datas_of : ℕ → List Slot → List Slot
@@ -30,6 +27,17 @@ datas_of e p = first_of p ∷ later_of e p
 -- the page that a slot names
 unfoldable pub slot_page : List ℕ → Slot → ℕ
 slot_page table s = page_of table (gref s)
+
+-- the part of n bytes that a slot names
+abbrev pub planned : (table : List ℕ) → Slot → ℕ → Part
+planned table s n = record { page = slot_page table s; offset = offset s; size = n }
+
+-- the plan of a packet: the part of each data slot, those of the later ones as long as these say
+abbrev pub later_plan : (table : List ℕ) → Slot → Part
+later_plan table s = planned table s (size s)
+
+abbrev pub plan : (table : List ℕ) (e : ℕ) → List Slot → List Part
+plan table e p = planned table (first_of p) (own_part e p) ∷ map (later_plan table) (later_of e p)
 
 -- where a data slot's part of n bytes lies, the slot standing at place k of the packet: the page that it names, or its cause for 7
 abbrev pub part_by : Verdict → ℕ → Result ℕ Fault
@@ -58,21 +66,12 @@ pub record Ready (page : List ℕ) (c : ℕ) (o : Outline) : Type 0 where
 abbrev pub later_at : List ℕ → (c extras later : ℕ) → List Slot
 later_at page c extras later = transmit_slots page (c + (extras + 1)) later
 
--- the later data slots were judged: where they are good, their pages and offsets are in the tables from the place 1 on; otherwise these
--- may hold anything
-pub record LaterJudged (table window page : List ℕ) (c extras later : ℕ) (pages₀ offsets₀ pages offsets : List ℕ) (r : Verdict) : Type 0 where
+-- the later data slots were judged: where they are good, their parts are in the table from the place 1 on; otherwise it may hold anything
+pub record LaterJudged (table window page : List ℕ) (c extras later : ℕ) (before after : List Part) (r : Verdict) : Type 0 where
   pub verdict : r ≡ judge_later table window (suc extras) (later_at page c extras later)
-  pub pages_are : r ≡ good → pages ≡ splice pages₀ 1 (map (slot_page table) (later_at page c extras later))
-  pub offsets_are : r ≡ good → offsets ≡ splice offsets₀ 1 (map offset (later_at page c extras later))
+  pub parts_are : r ≡ good → take (later + 1) after ≡ take 1 before ++ map (later_plan table) (later_at page c extras later)
 
--- the table holds the packet's parts
-unfoldable pub HoldsParts : (sizes : List ℕ) (e : ℕ) (p : List Slot) → Type 0
-HoldsParts sizes e p = take (length (datas_of e p)) sizes ≡ parts e p
-
--- the verdict v on the packet p with e extras; where it is good, the tables hold its data slots' pages, offsets and parts. After a refusal
--- they may hold anything
-pub record Judged (table : List ℕ) (e : ℕ) (p : List Slot) (v : Verdict) (pages offsets sizes : List ℕ) (r : Verdict) : Type 0 where
+-- the verdict v on the packet p with e extras; where it is good, the table holds its plan. After a refusal it may hold anything
+pub record Judged (table : List ℕ) (e : ℕ) (p : List Slot) (v : Verdict) (parts : List Part) (r : Verdict) : Type 0 where
   pub verdict : r ≡ v
-  pub pages_are : r ≡ good → take (length (datas_of e p)) pages ≡ map (slot_page table) (datas_of e p)
-  pub offsets_are : r ≡ good → take (length (datas_of e p)) offsets ≡ map offset (datas_of e p)
-  pub parts_are : r ≡ good → HoldsParts sizes e p
+  pub parts_are : r ≡ good → take (length (datas_of e p)) parts ≡ plan table e p

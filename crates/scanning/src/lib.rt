@@ -3,9 +3,9 @@
 
 ghost use Rattle.std.specs.Prelude.{◌≡◌, true, ◌+◌, ◌≤◌};
 ghost use Rattle.grammar.specs.Grammar.{within};
-ghost use Rattle.grammar.specs.Stages.{ExtrasRead, LaterRead};
+ghost use Rattle.grammar.specs.Stages.{sizes_in, ExtrasRead, LaterRead};
 
-use grammar::{Extras, Later, Unfinished};
+use grammar::{Extras, Later, Part, Unfinished};
 use netif::{DataSlot, Extra};
 use ring::Page;
 
@@ -54,10 +54,10 @@ pub fn read_later(
     posted: u32,
     extras: u32,
     announced: bool,
-    sizes: &mut [u16; 18],
+    parts: &mut [Part; 18],
 ) -> Result<Later, Unfinished>
     requires { (extras + 1 ≤ posted) × (within 1 extras ≡ true) }
-    ensures { LaterRead page.now first posted extras announced sizes.old sizes.new result }
+    ensures { LaterRead page.now first posted extras announced (sizes_in parts.old) (sizes_in parts.new) result }
 {
     let mut sum = 0;
     if !announced {
@@ -72,7 +72,7 @@ pub fn read_later(
         if slot.extra_follows() {
             return Err(Unfinished::Misshapen);
         }
-        sizes[count as usize] = slot.size;
+        parts[count as usize].size = slot.size;
         sum += u32::from(slot.size);
         if !slot.more_data() {
             return Ok(Later { count, sum });

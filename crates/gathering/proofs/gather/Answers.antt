@@ -1,28 +1,28 @@
--- `gathering::gather` meets its contract: where the loop stands at i, the first i parts stand joined at the front of the frame buffer. A
--- turn is a step of `Joining`.
-use mathlib.Core.Path.{◌≡◌, refl, sym}
+-- `gather` meets its contract: the parts before this one stand joined at the front of the frame buffer. A turn is a step of `Joining`.
+use mathlib.Core.Path.{◌≡◌, refl, sym, ap, ◌∙◌}
 use native.Mathlib.Omega.{arith}
 use Rattle.words.proofs.Word.{splice_none}
-use Rattle.packet.proofs.Joining.{next_fits, next_stands}
+use Rattle.packet.proofs.Joining.{next_fits, next_ends, next_stands}
 use Rattle.gathering.proofs.gather.Goals as goal
 
-pub loop-i-init : goal.loop-i-init
-loop-i-init c = (omega arith, (refl, sym (splice_none _ 0), refl))
+pub loop-part-init : goal.loop-part-init
+loop-part-init c = (refl, sym (splice_none _ 0))
 
-pub place_part-at-requires : goal.place_part-at-requires
-place_part-at-requires c = let a = c.args in
-    let p = c.requires in
-    let l = c.loop-i in
-    next_fits a.window.now a.pages.now a.offsets.now a.sizes.now a.frame.now a.count p.1 p.2 p.3 p.4 p.5 l.i (omega arith) l.frame l.at l.invariant.1 p.0
+pub copy_part-requires : goal.copy_part-requires
+copy_part-requires c = let a = c.args in
+    let l = c.loop-part in
+    let f = next_fits a.window.now a.parts.now a.frame.now c.requires.0 c.requires.1 l.part-index (omega arith) _ l.at l.invariant.0 in
+    (f.0, f.1, omega arith)
 
-pub loop-i-preserved : goal.loop-i-preserved
-loop-i-preserved c = let a = c.args in
-    let p = c.requires in
-    let l = c.loop-i in
-    let x = c.place_part-at in
-    (omega arith, next_stands a.window.now a.pages.now a.offsets.now a.sizes.now a.frame.now a.count p.1 p.2 p.3 p.4 p.5 l.i (omega arith) l.frame l.at l.invariant.1 _ _ x.ensures.0 x.ensures.1)
+pub overflow_add-at : goal.overflow_add-at
+overflow_add-at c = let a = c.args in
+    let l = c.loop-part in
+    let f = next_fits a.window.now a.parts.now a.frame.now c.requires.0 c.requires.1 l.part-index (omega arith) (record { page = 0; offset = 0; size = 0 }) l.at l.invariant.0 in
+    omega arith
 
-pub returns : goal.returns
-returns c = let l = c.loop-i in
-    let z : l.i ≡ c.args.count = omega arith in
-    rw z at l.invariant.1.1
+pub loop-part-preserved : goal.loop-part-preserved
+loop-part-preserved c = let a = c.args in
+    let l = c.loop-part in (
+      next_ends a.window.now a.parts.now a.frame.now c.requires.0 c.requires.1 l.part-index (omega arith) _ l.at l.invariant.0,
+      c.copy_part.ensures ∙ next_stands a.window.now a.parts.now a.frame.now c.requires.0 c.requires.1 l.part-index (omega arith) _ l.at l.invariant.0 l.frame l.invariant.1,
+    )

@@ -1,11 +1,10 @@
--- `gathering::gather` meets its contract: where the loop stands at i, the first i parts stand joined at the front of the frame buffer. A
--- turn is a step of `Joining`.
-use Prim.Native.Nat.{◌-◌, ◌≤◌}
-use Rattle.packet.proofs.Joining.{Standing}
+-- `gather` meets its contract: the parts before this one stand joined at the front of the frame buffer, and end at the position.
+use mathlib.Core.Path.{◌≡◌}
+use lib.ListN.{length, take}
+use Rattle.words.specs.Word.{splice}
+use Rattle.packet.specs.Stages.{joined}
 use Rattle.gathering.proofs.gather.Given as goal
 
-abbrev pub invariant-loop-i : goal.invariant-loop-i
-invariant-loop-i l = (l.i ≤ l.count) × Standing l.window l.pages l.offsets l.sizes l.initial.frame l.i l.frame l.at
-
-abbrev pub decreases-loop-i : goal.decreases-loop-i
-decreases-loop-i l = l.count - l.i
+abbrev pub invariant-loop-part : goal.invariant-loop-part
+invariant-loop-part l =
+    (l.at ≡ length (joined l.window (take l.part-index l.parts))) × (l.frame ≡ splice l.initial.frame 0 (joined l.window (take l.part-index l.parts)))

@@ -27,8 +27,6 @@ returns-in_err-judge_sizes c = let a = c.args in
     let x = err_from_is_err_and c.from_residual.result c.from_residual.ensures.1 in
     rw (x.1, x.2) (record {
       verdict = sym (judge_sizes_bad a.grants.now a.window.now a.o.extras p _ (sym (sizes_are a.o p c.requires.0.outline c.judge_sizes.ensures) ∙ c.in_err-judge_sizes.was));
-      pages_are = λ g. no_confusion cc;
-      offsets_are = λ g. no_confusion cc;
       parts_are = λ g. no_confusion cc;
     })
 
@@ -39,8 +37,6 @@ returns-in_err-judge_slots c = let a = c.args in
     let x = err_from_is_err_and c.from_residual-in_err-judge_slots.result c.from_residual-in_err-judge_slots.ensures.1 in
     rw (x.1, x.2) (record {
       verdict = sym (judge_slots_bad a.grants.now a.window.now a.o.extras p _ right (sym c.judge_slots.ensures.verdict ∙ c.in_err-judge_slots.was));
-      pages_are = λ g. no_confusion cc;
-      offsets_are = λ g. no_confusion cc;
       parts_are = λ g. no_confusion cc;
     })
 
@@ -55,7 +51,5 @@ returns c = let a = c.args in
     record {
       verdict = c.judge_gso.ensures ∙ (λ i. judge_gso o.extras (gso_size_of_lem o o.extras p h i) (gso_type_of_lem o o.extras p h i))
           ∙ sym (judge_gso_lem a.grants.now a.window.now o.extras p right (sym r.verdict ∙ good));
-      pages_are = λ g. r.pages_are good;
-      offsets_are = λ g. r.offsets_are good;
       parts_are = λ g. r.parts_are good;
     }

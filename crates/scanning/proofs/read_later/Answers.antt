@@ -4,7 +4,8 @@ use mathlib.Core.List.{List, ◌∷◌, map}
 use mathlib.Core.Bool.{Bool, true, false}
 use Prim.Native.Nat.{ℕ, ◌+◌, ◌-◌, ◌≤◌, ◌<◌}
 use native.Mathlib.Omega.{arith}
-use lib.ListN.{length, set}
+use lib.ListN.{length, set, length-map}
+use Rattle.std.proofs.lemmas.List.{map-set}
 use Rattle.words.specs.Word.{splice}
 use Rattle.words.proofs.Word.{splice_none}
 use Rattle.ring.specs.Ring.{wadd}
@@ -12,7 +13,7 @@ use Rattle.netif.specs.Slot.{Slot, size, more_data, extra_follows, transmit_slot
 use Rattle.grammar.specs.Grammar.{within}
 use Rattle.grammar.specs.Divide.{Cut, beginning, misshapen, scan}
 use Rattle.grammar.specs.Packet.{sizes as sizes_of}
-use Rattle.grammar.specs.Stages.{behind, SizesRead}
+use Rattle.grammar.specs.Stages.{sizes_in, behind, SizesRead}
 use Rattle.grammar.proofs.Within.{within_most, within_extras, within_over_datas}
 use Rattle.grammar.proofs.Loop.{data_closed, data_end, data_bad, data_next, nothing_owed, behind_none, behind_more, sum_next, column_next, more_bit, follows_bit, size_field}
 use Rattle.scanning.proofs.read_later.Goals as goal
@@ -31,14 +32,15 @@ module _ (page : List ℕ) (first posted extras count n : ℕ) (some : 1 ≤ cou
       sum_next page first n (extras + 1) (count - 1) there v h ∙ (λ i. sizes_of (transmit_slots page (first + (extras + 1)) (one i)))
 
   -- and entered
-  entered : (v : ℕ) → v ≡ size (transmit_slot page n) → count + extras < posted → count ≤ 17 → (before now : List ℕ) → length before ≡ 18
-      → SizesRead page first posted extras before now (count - 1) → (e : ℕ) → count ≡ e → SizesRead page first posted extras before (set now count v) e
-  entered v h k few before now s r e is =
+  entered : (v : ℕ) → v ≡ size (transmit_slot page n) → count + extras < posted → count ≤ 17 → (before now after : List ℕ) → length before ≡ 18
+      → SizesRead page first posted extras before now (count - 1) → after ≡ set now count v → (e : ℕ) → count ≡ e → SizesRead page first posted extras before after e
+  entered v h k few before now after s r w e is =
       let one : count - 1 + 1 ≡ e = omega arith in
       let place : count ≡ count - 1 + 1 = omega arith in
       record {
         few = omega arith;
-        table = (λ i. set (r.table i) (place i) v)
+        table = w
+            ∙ (λ i. set (r.table i) (place i) v)
             ∙ column_next page first n (extras + 1) (count - 1) there size v h before (omega arith)
             ∙ (λ i. splice before 1 (map size (transmit_slots page (first + (extras + 1)) (one i))));
       }
@@ -126,18 +128,18 @@ module _ (c : After-more_data) where
       ap (◌+ c.from-sum.result) c.loop-count.invariant.sum
       ∙ added c.args.page.now c.args.first c.args.posted c.args.extras c.loop-count.count _ c.loop-count.auto.count c.ahead.ensures _ (c.from-sum.ensures ∙ its_size) e is
 
-  stored : (e : ℕ) → c.loop-count.count ≡ e
-      → SizesRead c.args.page.now c.args.first c.args.posted c.args.extras c.args.sizes.now (set c.loop-count.sizes c.loop-count.count c.read-slot.result.size) e
-  stored e is =
-      entered c.args.page.now c.args.first c.args.posted c.args.extras c.loop-count.count _ c.loop-count.auto.count c.ahead.ensures _ its_size (omega arith) (omega arith) _ _ c.told-sizes
-      c.loop-count.invariant.read e is
+  stored : (e : ℕ) → c.loop-count.count ≡ e → {after : List ℕ} → after ≡ set (sizes_in c.loop-count.parts) c.loop-count.count c.read-slot.result.size
+      → SizesRead c.args.page.now c.args.first c.args.posted c.args.extras (sizes_in c.args.parts.now) after e
+  stored e is w =
+      entered c.args.page.now c.args.first c.args.posted c.args.extras c.loop-count.count _ c.loop-count.auto.count c.ahead.ensures _ its_size (omega arith) (omega arith) _ _ _
+      (length-map c.args.parts.now (λ p. p.size) ∙ c.told-parts) c.loop-count.invariant.read w e is
 
 pub returns-then-not-more_data : goal.returns-then-not-more_data
 returns-then-not-more_data c = let r = (goal.at.returns-then-not-more_data c).After-more_data in
     let l = c.loop-count in
     let right = allowed (goal.at.returns-then-not-more_data c).In-loop-count in
     record {
-      read = stored r l.count refl;
+      read = stored r l.count refl (map-set _ l.parts l.count _);
       rest = scanned r right c.if-not-more_data.true ∙ nothing_owed _ (l.count + 1) c.args.extras right;
       sum = summed r l.count refl;
     }
@@ -147,7 +149,7 @@ loop-count-preserved c = let r = (goal.at.loop-count-preserved c).After-more_dat
     let l = c.loop-count in
     record {
       so_far = scanned r (allowed (goal.at.loop-count-preserved c).In-loop-count) c.if-not-more_data.false;
-      read = stored r (l.count + 1 - 1) (omega arith);
+      read = stored r (l.count + 1 - 1) (omega arith) (map-set _ l.parts l.count _);
       sum = summed r (l.count + 1 - 1) (omega arith);
       small = omega arith;
     }

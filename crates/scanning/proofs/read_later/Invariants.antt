@@ -6,13 +6,13 @@ use Prim.Native.Nat.{◌+◌, ◌-◌, ◌*◌, ◌≤◌}
 use Rattle.netif.specs.Slot.{transmit_slots}
 use Rattle.grammar.specs.Divide.{scan}
 use Rattle.grammar.specs.Packet.{sizes as sizes_of}
-use Rattle.grammar.specs.Stages.{behind, SizesRead}
+use Rattle.grammar.specs.Stages.{sizes_in, behind, SizesRead}
 use Rattle.scanning.proofs.read_later.Given as goal
 
 abbrev pub invariant-loop-count : goal.invariant-loop-count
 invariant-loop-count l = record {
   so_far : scan (behind l.page l.first l.posted (l.extras + 1)) 1 l.extras false l.announced ≡ scan (behind l.page l.first l.posted (l.count + l.extras)) l.count l.extras false true;
-  read : SizesRead l.page l.first l.posted l.extras l.initial.sizes l.sizes (l.count - 1);
+  read : SizesRead l.page l.first l.posted l.extras (sizes_in l.initial.parts) (sizes_in l.parts) (l.count - 1);
   sum : l.sum ≡ sizes_of (transmit_slots l.page (l.first + (l.extras + 1)) (l.count - 1));
   small : l.sum ≤ 65535 * (l.count - 1);
 }
