@@ -14,7 +14,7 @@ ghost use Rattle.transmit.specs.Take.{go_on, summary_of};
 ghost use Rattle.transmit.specs.Stages.{Lent, Gives, take_whole, packet_one, alone_outline, HandedOne};
 
 use answer::Fault;
-use grammar::Outline;
+use grammar::{Outline, Part};
 use netif::DataSlot;
 use ring::Page;
 use transmit::Answer;
@@ -58,7 +58,12 @@ fn accept_alone(full: bool, head: DataSlot, page: u32, window: &[u8], frame: &mu
     if full {
         return Answer::NoRecord;
     }
-    gathering::copy_part(window, page, head.offset, head.size, frame, 0);
+    let part = Part {
+        page,
+        offset: head.offset,
+        size: head.size,
+    };
+    gathering::copy_part(window, part, frame, 0);
     settling::accept(outline_of(head))
 }
 
@@ -99,6 +104,11 @@ pub fn hand_over(
     if frame.len() < usize::from(head.size) {
         return None;
     }
-    gathering::copy_part(window, page, head.offset, head.size, frame, 0);
+    let part = Part {
+        page,
+        offset: head.offset,
+        size: head.size,
+    };
+    gathering::copy_part(window, part, frame, 0);
     Some(settling::accept(outline_of(head)))
 }

@@ -7,7 +7,7 @@ ghost use Rattle.held.specs.declared.Held.{Held};
 ghost use Rattle.transmit.specs.Take.{go_on, overflow, take_front, transmit_take};
 ghost use Rattle.transmit.specs.Stages.{Lent, Found, Gives, ComesToOne};
 
-use grammar::Unfinished;
+use grammar::{Part, Unfinished};
 use netif::DataSlot;
 use ring::{Page, RingSlot};
 use transmit::{Answer, Queue};
@@ -31,15 +31,15 @@ fn take_front(
     if divider::is_alone(ring, first) {
         return alone::settle_alone(first, replied, full, grants, window, ring, frame);
     }
-    let mut sizes = [0u16; 18];
-    match divider::read(ring, first, count, &mut sizes) {
+    let mut parts = [Part::NONE; 18];
+    match divider::read(ring, first, count, &mut parts) {
         Err(Unfinished::Misshapen) => Answer::Misshapen,
         Err(Unfinished::Beginning) => {
             ring::ask_event(ring);
             Answer::Waiting
         }
         Ok(o) => settling::settle(
-            first, replied, full, o, &mut sizes, grants, window, ring, frame,
+            first, replied, full, o, &mut parts, grants, window, ring, frame,
         ),
     }
 }

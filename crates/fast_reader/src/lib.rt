@@ -7,7 +7,7 @@ ghost use Rattle.division.specs.Answer.{StepIs, CutAs};
 ghost use Rattle.division.specs.Fast.{divided_of, table_of};
 
 use division::{Cuts, Ending, Refused};
-use grammar::Unfinished;
+use grammar::{Part, Unfinished};
 use netif::DataSlot;
 use ring::{Page, RingSlot};
 
@@ -19,8 +19,8 @@ fn front(page: &Page, at: u32, left: u32) -> Result<usize, Ending>
     requires { (1 ≤ left) × (left ≤ slot_count) }
     ensures { StepIs (transmit_slots page.now at left) result }
 {
-    let mut sizes = [0u16; 18];
-    match divider::read(page, at, left, &mut sizes) {
+    let mut parts = [Part::NONE; 18];
+    match divider::read(page, at, left, &mut parts) {
         Ok(outline) => Ok(outline.slots as usize),
         Err(Unfinished::Beginning) => Err(Ending::Waiting),
         Err(Unfinished::Misshapen) => Err(Ending::Misshapen),

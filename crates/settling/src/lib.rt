@@ -4,7 +4,7 @@
 ghost use Rattle.std.specs.Prelude.{◌≡◌, List, Bool, ℕ, ◌≤◌, ◌<◌, length};
 ghost use Rattle.netif.specs.Slot.{Slot};
 ghost use Rattle.grammar.specs.Packet.{later_of};
-ghost use Rattle.grammar.specs.Stages.{outline_of};
+ghost use Rattle.grammar.specs.Stages.{outline_of, sizes_in};
 ghost use Rattle.packet.specs.Stages.{SizesOf, packet_at, Ready};
 ghost use Rattle.held.specs.declared.Held.{Held};
 ghost use Rattle.transmit.specs.declared.Answer.TheVariants.{Done};
@@ -12,7 +12,7 @@ ghost use Rattle.transmit.specs.Take.{go_on, summary_of, take_packet};
 ghost use Rattle.transmit.specs.Stages.{Lent, Gives, RepliedNow, take_whole};
 
 use answer::{Fault, Summary};
-use grammar::Outline;
+use grammar::{Outline, Part};
 use ring::{Page, Side};
 use transmit::Answer;
 
@@ -88,31 +88,19 @@ pub fn settle(
     replied: u32,
     full: bool,
     o: Outline,
-    sizes: &mut [u16; 18],
+    parts: &mut [Part; 18],
     grants: &[u8],
     window: &[u8],
     ring: &mut Page,
     frame: &mut [u8],
 ) -> Answer
     requires { Ready ring.old first o
-        × SizesOf sizes.old (later_of o.extras (packet_at ring.old first o)) }
+        × SizesOf (sizes_in parts.old) (later_of o.extras (packet_at ring.old first o)) }
     ensures { (l : List Held) → Lent first replied full l → Gives
         (take_whole grants.now window.now (go_on first replied) ring.old frame.old l o.extras (packet_at ring.old first o))
         (go_on first replied) l result ring.new frame.new }
 {
-    let mut pages = [0u32; 18];
-    let mut offsets = [0u16; 18];
-    let judged = judging::judge(
-        ring,
-        first,
-        o,
-        sizes,
-        &mut pages,
-        &mut offsets,
-        grants,
-        window,
-    );
-    if let Err(fault) = judged {
+    if let Err(fault) = judging::judge(ring, first, o, parts, grants, window) {
         return refuse(first, replied, full, o, fault, ring);
     }
     if frame.len() < usize::from(o.head.size) {
@@ -122,6 +110,6 @@ pub fn settle(
         return Answer::NoRecord;
     }
     let count = (o.slots - o.extras) as usize;
-    gathering::gather(window, count, &pages, &offsets, sizes, frame);
+    gathering::gather(window, &parts[..count], frame);
     accept(o)
 }

@@ -43,7 +43,7 @@ use Rattle.transmit.specs.declared.Answer.{Answer}
 use Rattle.transmit.specs.declared.Answer.TheVariants.{Done, Spoiled}
 use Rattle.transmit.specs.Take.{go_on, refusal, replies_to, summary_of, spoiled, handed_over, take_packet, take_front}
 use Rattle.transmit.specs.Stages.{report_of, takes, queue_after, Gives, Lent, RepliedNow}
-use Rattle.packet.specs.Stages.{joined, InWindow, datas_of, slot_page, packet_at, Ready, HoldsParts}
+use Rattle.packet.specs.Stages.{joined, InWindow, slot_page, later_plan, plan, packet_at, Ready}
 use Rattle.packet.proofs.Judge.{or_else_good, slot_granted, good_parts}
 use Rattle.transmit.proofs.Cases.{running, replies_short}
 use Rattle.transmit.proofs.Replies.{low_status}
@@ -132,47 +132,21 @@ later_inside table window [] k h j f = absurd (omega arith)
 later_inside table window (s ∷ l) k h zero f = slot_inside table window k s (size s) (or_else_good (judge_slot table window k s (size s)) (judge_later table window (suc k) l) h).0
 later_inside table window (s ∷ l) k h (suc j) f = later_inside table window l (suc k) (or_else_good (judge_slot table window k s (size s)) (judge_later table window (suc k) l) h).1 j (omega arith)
 
-joined_later : (table window : List ℕ) (l : List Slot) → joined window (map (slot_page table) l) (map offset l) (map size l) ≡ later_parts table window l
+joined_later : (table window : List ℕ) (l : List Slot) → joined window (map (later_plan table) l) ≡ later_parts table window l
 unfolding part_of slot_page
 joined_later table window [] = refl
 joined_later table window (s ∷ l) = ap (part_of table window s (size s) ++◌) (joined_later table window l)
 
--- a table that holds so many entries is as long
-column_long : (l t : List ℕ) (n : ℕ) → take n l ≡ t → n ≡ length t → n ≤ length l
-column_long l t n h e = omega (arith, sym (length-take n l) ∙ ap length h)
+module _ (table window : List ℕ) (e : ℕ) (p : List Slot) where
+  pub plan_joined : joined window (plan table e p) ≡ frame_of table window e p
+  unfolding frame_of part_of slot_page
+  plan_joined = ap (part_of table window (first_of p) (own_part e p) ++◌) (joined_later table window (later_of e p))
 
--- the tables hold the plan of the packet p with e extras, and it is good
-module _ (table window : List ℕ) (e : ℕ) (p : List Slot) (pages offsets sizes : List ℕ) (n : ℕ) (count : n ≡ length (datas_of e p))
-    (ps : take (length (datas_of e p)) pages ≡ map (slot_page table) (datas_of e p)) (os : take (length (datas_of e p)) offsets ≡ map offset (datas_of e p)) (ss : HoldsParts sizes e p)
-    (fine : judge table window e p ≡ good) where
-  pub plan_joined : joined window (take n pages) (take n offsets) (take n sizes) ≡ frame_of table window e p
-  unfolding frame_of part_of parts slot_page HoldsParts
-  plan_joined = rw (count, ps, os, ss) (ap (part_of table window (first_of p) (own_part e p) ++◌) (joined_later table window (later_of e p)))
-
-  pub plan_long : (n ≤ length pages) × (n ≤ length offsets) × (n ≤ length sizes)
-  unfolding HoldsParts parts
-  plan_long =
-      let k : length (datas_of e p) ≡ length (map (slot_page table) (datas_of e p)) = sym (length-map (datas_of e p) (slot_page table)) in
-      let m : length (datas_of e p) ≡ length (map offset (datas_of e p)) = sym (length-map (datas_of e p) offset) in
-      let j : length (datas_of e p) ≡ length (own_part e p ∷ map size (later_of e p)) = ap suc (sym (length-map (later_of e p) size)) in (
-        omega (arith, column_long pages _ (length (datas_of e p)) ps k),
-        omega (arith, column_long offsets _ (length (datas_of e p)) os m),
-        omega (arith, column_long sizes _ (length (datas_of e p)) ss j),
-      )
-
-  at : (l t : List ℕ) → take (length (datas_of e p)) l ≡ t → (i : ℕ) → i < n → get_or l i 0 ≡ get_or t i 0
-  at l t h i k = sym (get_or-take (length (datas_of e p)) l i 0 (omega arith)) ∙ ap (λ (x : List ℕ). get_or x i 0) h
-
-  inside : (i : ℕ) → i < length (datas_of e p) → (4096 * get_or (map (slot_page table) (datas_of e p)) i 0 + 4096 ≤ length window) × (get_or (map offset (datas_of e p)) i 0 + get_or (parts e p) i 0 ≤ 4096)
-  unfolding parts
-  inside zero k = slot_inside table window 0 (first_of p) (own_part e p) (good_parts table window e p fine).1
-  inside (suc j) k =
-      rw (map_at (slot_page table) (later_of e p) j [] 0 (omega arith), map_at offset (later_of e p) j [] 0 (omega arith), map_at size (later_of e p) j [] 0 (omega arith))
-      (later_inside table window (later_of e p) (suc e) (good_parts table window e p fine).2 j (omega arith))
-
-  pub plan_inside : InWindow window pages offsets sizes n
-  unfolding InWindow HoldsParts
-  plan_inside i k = rw (at pages (map (slot_page table) (datas_of e p)) ps i k, at offsets (map offset (datas_of e p)) os i k, at sizes (parts e p) ss i k) (inside i (omega arith))
+  pub plan_inside : judge table window e p ≡ good → InWindow window (plan table e p)
+  plan_inside fine zero d k = slot_inside table window 0 (first_of p) (own_part e p) (good_parts table window e p fine).1
+  plan_inside fine (suc j) d k =
+      let few : j < length (later_of e p) = omega (arith, k, length-map (later_of e p) (later_plan table)) in
+      rw (map_at (later_plan table) (later_of e p) j [] d few) (later_inside table window (later_of e p) (suc e) (good_parts table window e p fine).2 j few)
 
 -- ---- what a take leaves
 

@@ -1,6 +1,6 @@
 -- `settle` meets its contract: by the verdict the packet is spoiled, finds no room, or is handed over with its parts joined in the frame
 -- buffer.
-use mathlib.Core.Path.{◌≡◌, refl, sym, ap, ◌∙◌}
+use mathlib.Core.Path.{◌≡◌, refl, sym, ap, subst, ◌∙◌}
 use mathlib.Core.List.{List}
 use mathlib.Core.Bool.{false}
 use Prim.Native.Nat.{ℕ, ◌-◌, ◌≤◌}
@@ -10,10 +10,11 @@ use Rattle.std.specs.Prelude.{Err}
 use Rattle.words.specs.Word.{splice}
 use Rattle.netif.specs.Slot.{Slot}
 use Rattle.grammar.specs.declared.Outline.{Outline}
+use Rattle.grammar.specs.declared.Part.{Part}
 use Rattle.answer.specs.declared.Fault.{Fault}
 use Rattle.answer.specs.Verdict.{good}
 use Rattle.packet.specs.Judge.{total_of, judge, frame_of}
-use Rattle.packet.specs.Stages.{joined, InWindow, datas_of, packet_at}
+use Rattle.packet.specs.Stages.{joined, InWindow, plan, datas_of, packet_at}
 use Rattle.packet.proofs.Judge.{frame_length}
 use Rattle.packet.proofs.Plans.{total_of_lem, datas_count}
 use Rattle.held.specs.declared.Held.{Held}
@@ -22,11 +23,11 @@ use Rattle.transmit.specs.declared.Queue.{Queue}
 use Rattle.transmit.specs.declared.Answer.TheVariants.{NoRoom, NoRecord}
 use Rattle.transmit.specs.Take.{go_on, take_packet}
 use Rattle.transmit.specs.Stages.{take_whole}
-use Rattle.transmit.proofs.Settling.{plan_long, plan_inside, plan_joined, gives_refusal, gives_done, packet_no_room, packet_no_record, packet_done}
+use Rattle.transmit.proofs.Settling.{plan_inside, plan_joined, gives_refusal, gives_done, packet_no_room, packet_no_record, packet_done}
 use Rattle.settling.proofs.settle.Goals as goal
-use Rattle.settling.proofs.settle.Goals.{After-judge-judged}
+use Rattle.settling.proofs.settle.Goals.{After-judge}
 
-module _ (j : After-judge-judged) where
+module _ (j : After-judge) where
   abbrev q : Queue
   q = go_on j.args.first j.args.replied
 
@@ -57,61 +58,48 @@ module _ (j : After-judge-judged) where
   count : o.slots - e ≡ length (datas_of e p)
   count = sym (datas_count page q.consumed o.slots e j.requires.0.some)
 
-  abbrev pages : List ℕ
-  pages = j.judge-judged.new.pages
-
-  abbrev offsets : List ℕ
-  offsets = j.judge-judged.new.offsets
-
-  abbrev sizes : List ℕ
-  sizes = j.judge-judged.new.sizes
+  abbrev parts : List Part
+  parts = take (o.slots - e) j.judge.new.parts
 
   -- it is bad
-  spoils : (f : Fault) → j.judge-judged.result ≡ Err f → (l : List Held)
+  spoils : (f : Fault) → j.judge.result ≡ Err f → (l : List Held)
       → take_whole table window q page frame l e p ≡ take_packet table window q page frame l e p (Err f)
-  spoils f told l = ap (take_packet table window q page frame l e p) (sym j.judge-judged.ensures.verdict ∙ told)
+  spoils f told l = ap (take_packet table window q page frame l e p) (sym j.judge.ensures.verdict ∙ told)
 
   -- its plan, if it is good
-  module _ (told : j.judge-judged.result ≡ good) where
+  module _ (told : j.judge.result ≡ good) where
     fine : judge table window e p ≡ good
-    fine = sym j.judge-judged.ensures.verdict ∙ told
+    fine = sym j.judge.ensures.verdict ∙ told
 
-    long : (o.slots - e ≤ length pages) × (o.slots - e ≤ length offsets) × (o.slots - e ≤ length sizes)
-    long = plan_long table window e p pages offsets sizes (o.slots - e) count (j.judge-judged.ensures.pages_are told) (j.judge-judged.ensures.offsets_are told) (j.judge-judged.ensures.parts_are told) fine
+    planned : parts ≡ plan table e p
+    planned = ap (λ (n : ℕ). take n j.judge.new.parts) count ∙ j.judge.ensures.parts_are told
 
-    inside : InWindow window pages offsets sizes (o.slots - e)
-    inside = plan_inside table window e p pages offsets sizes (o.slots - e) count (j.judge-judged.ensures.pages_are told) (j.judge-judged.ensures.offsets_are told) (j.judge-judged.ensures.parts_are told) fine
-
-    is-frame : joined window (take (o.slots - e) pages) (take (o.slots - e) offsets) (take (o.slots - e) sizes) ≡ frame_of table window e p
-    is-frame = plan_joined table window e p pages offsets sizes (o.slots - e) count (j.judge-judged.ensures.pages_are told) (j.judge-judged.ensures.offsets_are told) (j.judge-judged.ensures.parts_are told) fine
+    is-frame : joined window parts ≡ frame_of table window e p
+    is-frame = ap (joined window) planned ∙ plan_joined table window e p
 
 pub returns-then-frame-from : goal.returns-then-frame-from
-returns-then-frame-from c l lent = let j = (goal.at.returns-then-frame-from c).After-judge-judged in
+returns-then-frame-from c l lent = let j = (goal.at.returns-then-frame-from c).After-judge in
     rw (packet_no_room (table j) (window j) (q j) (page j) (frame j) l (e j) (p j) (fine j c.in_default.is) (omega (arith, c.from.ensures, total j, c.if-frame-from.true)))
     (gives_refusal 8 (q j) (page j) (frame j) l NoRoom refl refl refl)
 
 pub returns-then-full : goal.returns-then-full
-returns-then-full c l lent = let j = (goal.at.returns-then-full c).After-judge-judged in
+returns-then-full c l lent = let j = (goal.at.returns-then-full c).After-judge in
     rw (packet_no_record (table j) (window j) (q j) (page j) (frame j) l (e j) (p j) (fine j c.in_default.is) (omega (arith, c.from.ensures, total j, c.if-frame-from.false)) (lent.fullness ∙ c.if-full.true))
     (gives_refusal 14 (q j) (page j) (frame j) l NoRecord refl refl refl)
 
 pub gather-requires : goal.gather-requires
-gather-requires c = let j = (goal.at.gather-requires c).After-judge-judged in let told = c.in_default.is in (
-  omega (arith, c.requires.0.some, c.requires.0.datas),
-  (long j told).0,
-  (long j told).1,
-  (long j told).2,
-  inside j told,
+gather-requires c = let j = (goal.at.gather-requires c).After-judge in let told = c.in_default.is in (
+  subst (InWindow (window j)) (sym (planned j told)) (plan_inside (table j) (window j) (e j) (p j) (fine j told)),
   omega (arith, ap length (is-frame j told), frame_length (table j) (window j) (e j) (p j) (fine j told), c.from.ensures, total j, c.if-frame-from.false),
 )
 
 pub returns-in-Err : goal.returns-in-Err
-returns-in-Err c l lent = let j = (goal.at.returns-in-Err c).After-judge-judged in
+returns-in-Err c l lent = let j = (goal.at.returns-in-Err c).After-judge in
     rw (spoils j _ c.in-Err.is l)
     (c.refuse.ensures (table j) (window j) (frame j) l lent)
 
 pub returns : goal.returns
-returns c l lent = let j = (goal.at.returns c).After-judge-judged in
+returns c l lent = let j = (goal.at.returns c).After-judge in
     let told = c.in_default.is in
     let room : full l ≡ false = lent.fullness ∙ c.if-full.false in
     let written = c.gather.ensures ∙ ap (splice (frame j) 0) (is-frame j told) in
