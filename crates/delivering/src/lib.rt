@@ -68,13 +68,7 @@ pub fn summary_of(slots: u32, total: u32) -> Summary
 }
 
 // Consumes requests that are all fit: the pages that they name get the pieces of the frame.
-fn deliver(
-    window: &mut [u8],
-    ring: &mut Page,
-    old: u32,
-    pages: &[u32],
-    frame: &[u8],
-) -> Outcome
+fn deliver(window: &mut [u8], ring: &mut Page, old: u32, pages: &[u32], frame: &[u8]) -> Outcome
     requires { (length frame.now ≤ 65535)
         × (length pages.now ≡ needed (length frame.now))
         × AllUsable (length window.old) pages.now }

@@ -1,13 +1,10 @@
 -- `judge` meets its contract. Each way out is one law of `Requests`.
-use mathlib.Core.Path.{◌≡◌, sym, ap, ◌∙◌}
-use Prim.Native.Nat.{◌+◌}
-use native.Mathlib.Nat.{add-zero, sub-zero}
+use mathlib.Core.Path.{◌≡◌, sym, ◌∙◌}
 use native.Mathlib.Omega.{arith}
 use lib.ListN.{length}
-use Rattle.std.specs.Prelude.{Err}
 use Rattle.std.proofs.lemmas.Result.{err_from_is_err_and}
 use Rattle.answer.specs.Verdict.{bad}
-use Rattle.receive.proofs.Requests.{judged_unfit, judge_fit, table_next, judged_good}
+use Rattle.receive.proofs.Requests.{judged_unfit, judge_fit, table_next}
 use Rattle.delivering.proofs.judge.Goals as goal
 
 pub returns-in_err-page : goal.returns-in_err-page
