@@ -59,10 +59,10 @@ pub fn read_later(
     requires { (extras + 1 ≤ posted) × (within 1 extras ≡ true) }
     ensures { LaterRead page.now first posted extras announced (sizes_in parts.old) (sizes_in parts.new) result }
 {
-    let mut sum = 0;
     if !announced {
-        return Ok(Later { count: 0, sum });
+        return Ok(Later { count: 0, sum: 0 });
     }
+    let mut sum = 0;
     for count in 1..MOST_DATA_SLOTS {
         let i = count + extras;
         if i == posted {
