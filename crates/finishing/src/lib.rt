@@ -30,8 +30,13 @@ pub enum Refusal {
 fn publish(ring: &mut Page, replied: u32, slots: u32) -> Sent
     ensures { Published ring.old replied slots result ring.new }
 {
-    let notify = slots != 0
-        && ring::publish(ring, Side::Replies, replied, ring::ahead(replied, slots));
+    if slots == 0 {
+        return Sent {
+            slots,
+            notify: false,
+        };
+    }
+    let notify = ring::publish(ring, Side::Replies, replied, ring::ahead(replied, slots));
     Sent { slots, notify }
 }
 
@@ -74,7 +79,8 @@ pub fn finish(
         return Err(Refusal::BadPage);
     };
     let mut index = Index::new();
-    let tally =
-        inspecting::inspect(list, consumed, replied, &mut index).ok_or(Refusal::BadRecords)?;
+    let tally = inspecting::inspect(list, consumed, replied, &mut index).ok_or(
+        Refusal::BadRecords,
+    )?;
     finish_held(list, &index, tally.slots, replied, ring, ticket, status)
 }

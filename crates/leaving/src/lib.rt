@@ -23,13 +23,7 @@ fn reply_for(ring: &mut Page, replied: u32, offset: u32, h: Held)
 }
 
 // As long as the oldest packet is finished it is replied to and its record is freed. Returns the slots of those.
-pub fn leave(
-    list: &mut [Held],
-    index: &Index,
-    between: u32,
-    replied: u32,
-    ring: &mut Page,
-) -> u32
+pub fn leave(list: &mut [Held], index: &Index, between: u32, replied: u32, ring: &mut Page) -> u32
     requires { Indexed between replied list.old index.now }
     ensures { Left (release between replied list.old) replied ring.old result list.new ring.new }
 {

@@ -73,68 +73,68 @@ module _ (n r : ℕ) (l : List Held) (index : List ℕ) (i : Indexed n r l index
 
   -- the place that the index has there
   module _ (p : ℕ) (e : Some p ≡ place_in index o n) where
-      record There : Type 0 where
-        inside : p < length l
-        used : in_use (get_or l p free) ≡ true
-        place : place_at l t ≡ p
+    record There : Type 0 where
+      inside : p < length l
+      used : in_use (get_or l p free) ≡ true
+      place : place_at l t ≡ p
 
-      there : There
-      unfolding place_in
-      there = ⊎_elim
-          (λ k. go k (i.entries o k))
-          (λ k. (let y : Some p ≡ None = e ∙ rw (le-leb n o k) refl in absurd cc))
-          (lt_or_ge o n)
-        where
-          go : o < n → Stands l r (length l) o (get_or index o 0) → There
-          go k (Stands.empty q g) = let y : Some p ≡ None = e ∙ rw (lt-leb n o k, eq-eqb (get_or index o 0) 0 q) refl in absurd cc
-          go k (Stands.entered q a b u z) =
-              let some = in_use_some (get_or l q free) u in
-              let y : Some p ≡ Some (get_or index o 0 % 256) = e ∙ rw (lt-leb n o k, ne_eqb (get_or index o 0) 0 (λ v. omega arith)) refl in
-              let w : p ≡ get_or index o 0 % 256 = ap (λ (m : Option ℕ). unwrap_or m 0) y in
-              let x : q ≡ p = omega (arith, i.few) in
-              let f : place_at l (wadd r o) ≡ q = held_place n r l covered i.tickets o k q u z in
-              record {
-                inside = omega arith;
-                used = rw x at u;
-                place = ap (place_at l) (on_counter t r word) ∙ f ∙ x;
-              }
+    there : There
+    unfolding place_in
+    there = ⊎_elim
+        (λ k. go k (i.entries o k))
+        (λ k. (let y : Some p ≡ None = e ∙ rw (le-leb n o k) refl in absurd cc))
+        (lt_or_ge o n)
+      where
+        go : o < n → Stands l r (length l) o (get_or index o 0) → There
+        go k (Stands.empty q g) = let y : Some p ≡ None = e ∙ rw (lt-leb n o k, eq-eqb (get_or index o 0) 0 q) refl in absurd cc
+        go k (Stands.entered q a b u z) =
+            let some = in_use_some (get_or l q free) u in
+            let y : Some p ≡ Some (get_or index o 0 % 256) = e ∙ rw (lt-leb n o k, ne_eqb (get_or index o 0) 0 (λ v. omega arith)) refl in
+            let w : p ≡ get_or index o 0 % 256 = ap (λ (m : Option ℕ). unwrap_or m 0) y in
+            let x : q ≡ p = omega (arith, i.few) in
+            let f : place_at l (wadd r o) ≡ q = held_place n r l covered i.tickets o k q u z in
+            record {
+              inside = omega arith;
+              used = rw x at u;
+              place = ap (place_at l) (on_counter t r word) ∙ f ∙ x;
+            }
 
-      pub ticket_inside : p < length l
-      ticket_inside = there.inside
+    pub ticket_inside : p < length l
+    ticket_inside = there.inside
 
-      record_is : record_at l t ≡ get_or l p free
-      unfolding record_at
-      record_is = ap (λ (k : ℕ). get_or l k free) there.place
+    record_is : record_at l t ≡ get_or l p free
+    unfolding record_at
+    record_is = ap (λ (k : ℕ). get_or l k free) there.place
 
-      -- it can be finished exactly if it is not finished
-      pub ticket_can : eqb (get_or l p free).finished 0 ≡ can_finish l t
-      unfolding can_finish is_finished
-      ticket_can = sym (rw (record_is, there.used) (twice_not (eqb (get_or l p free).finished 0)))
-        where
-          twice_not : (b : Bool) → not (not b) ≡ b
-          twice_not true = refl
-          twice_not false = refl
+    -- it can be finished exactly if it is not finished
+    pub ticket_can : eqb (get_or l p free).finished 0 ≡ can_finish l t
+    unfolding can_finish is_finished
+    ticket_can = sym (rw (record_is, there.used) (twice_not (eqb (get_or l p free).finished 0)))
+      where
+        twice_not : (b : Bool) → not (not b) ≡ b
+        twice_not true = refl
+        twice_not false = refl
 
-      held : Found l t
-      held = found_used l t (ap in_use record_is ∙ there.used)
+    held : Found l t
+    held = found_used l t (ap in_use record_is ∙ there.used)
 
-      pub ticket_finish : (status : ℕ) → set l p (finished_as status (get_or l p free)) ≡ finish l t status
-      unfolding finish
-      ticket_finish status =
-          sym (ap (λ (k : ℕ). set l k (ended t (record_at l t).slots (record_at l t).extras status)) there.place
-          ∙ ap (λ (y : Held). set l p y) (ap (λ (q : ℕ). ended q (record_at l t).slots (record_at l t).extras status) (sym held.ticket) ∙ ap (λ (y : Held). finished_as status y) record_is))
+    pub ticket_finish : (status : ℕ) → set l p (finished_as status (get_or l p free)) ≡ finish l t status
+    unfolding finish
+    ticket_finish status =
+        sym (ap (λ (k : ℕ). set l k (ended t (record_at l t).slots (record_at l t).extras status)) there.place
+        ∙ ap (λ (y : Held). set l p y) (ap (λ (q : ℕ). ended q (record_at l t).slots (record_at l t).extras status) (sym held.ticket) ∙ ap (λ (y : Held). finished_as status y) record_is))
 
-      -- and the index stays right
-      pub ticket_indexed : (status : ℕ) → is_status status ≡ true → Indexed n r (finish l t status) index
-      unfolding Tickets
-      ticket_indexed status ok =
-          let x : Held = finished_as status (get_or l p free) in
-          let keeps = finish_sound n r l covered t held status sound ok in
-          record {
-            few = omega (arith, finish_length l t status, i.few);
-            covered = covers_join n r (finish l t status) (finish_covers n r l covered t held status);
-            counts = each_join (λ x. is_count x.slots x.extras) (finish l t status) (λ j u. (keeps j u).counts);
-            statuses = each_join (λ x. is_status x.status) (finish l t status) (λ j u. (keeps j u).status);
-            entries = λ q b. rw (finish_length l t status, ← ticket_finish status) (stands_changed l r (length l) q (get_or index q 0) p (finished_as status (get_or l p free)) there.inside refl refl (i.entries q b));
-            tickets = subst Tickets (ticket_finish status) (tickets_set l p (finished_as status (get_or l p free)) there.inside (i.tickets p) i.tickets);
-          }
+    -- and the index stays right
+    pub ticket_indexed : (status : ℕ) → is_status status ≡ true → Indexed n r (finish l t status) index
+    unfolding Tickets
+    ticket_indexed status ok =
+        let x : Held = finished_as status (get_or l p free) in
+        let keeps = finish_sound n r l covered t held status sound ok in
+        record {
+          few = omega (arith, finish_length l t status, i.few);
+          covered = covers_join n r (finish l t status) (finish_covers n r l covered t held status);
+          counts = each_join (λ x. is_count x.slots x.extras) (finish l t status) (λ j u. (keeps j u).counts);
+          statuses = each_join (λ x. is_status x.status) (finish l t status) (λ j u. (keeps j u).status);
+          entries = λ q b. rw (finish_length l t status, ← ticket_finish status) (stands_changed l r (length l) q (get_or index q 0) p (finished_as status (get_or l p free)) there.inside refl refl (i.entries q b));
+          tickets = subst Tickets (ticket_finish status) (tickets_set l p (finished_as status (get_or l p free)) there.inside (i.tickets p) i.tickets);
+        }

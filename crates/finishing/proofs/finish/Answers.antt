@@ -1,23 +1,33 @@
--- `finish` meets its contract. Each way out is one law of `Answers`.
-use Rattle.std.proofs.Common.{◌≡◌, true, sym, ◌∙◌, length}
-use borrow.Author.Tests.{eqb-true, eqb-false, not-true, not-false}
-use Rattle.finishing.proofs.Answers.{finish_page, finish_records, finish_valid}
+-- Each way out is one law of `Answers`.
+use Rattle.std.proofs.Common.{◌≡◌, false, true, is_some, sym, ap, ◌∙◌, length}
+use Rattle.std.proofs.lemmas.Result.{err_from_is_err_and}
+use Rattle.finishing.specs.declared.Refusal.TheVariants.{BadRecords}
+use Rattle.finishing.proofs.Answers.{refusal_is, finish_page, finish_records, finish_valid}
 use Rattle.finishing.proofs.finish.Goals as goal
-use Rattle.finishing.proofs.finish.Goals.{Else-not-is_page}
+use Rattle.finishing.proofs.finish.Goals.{In-Some}
 
-size : (c : Else-not-is_page) → length c.args.ring.now ≡ 4096
-size c = eqb-true (length c.args.ring.now) 4096 (sym c.is_page.ensures ∙ c.if-not-is_page.false)
+pub returns-in_default : goal.returns-in_default
+returns-in_default c = let a = c.args in
+    finish_page a.list.now a.consumed a.replied a.ring.now a.ticket a.status c.in_default.ensures.cases
 
-pub returns-then-not-is_page : goal.returns-then-not-is_page
-returns-then-not-is_page c = let a = c.args in
-    finish_page a.list.now a.consumed a.replied a.ring.now a.ticket a.status (eqb-false (length a.ring.now) 4096 (sym c.is_page.ensures ∙ c.if-not-is_page.true))
+-- the page's bytes are the slice's
+same : (c : In-Some) → c.in-Some.ring.now ≡ c.args.ring.now
+same c = c.in-Some.ensures.cases.same
 
-pub returns-then-not-s : goal.returns-then-not-s
-returns-then-not-s c = let a = c.args in
-    finish_records a.list.now a.consumed a.replied a.ring.now a.ticket a.status (size (goal.at.returns-then-not-s c).Else-not-is_page) (sym c.inspect-s.ensures.good ∙ not-true c.inspect-s.result.good c.if-not-s.true)
+size : (c : In-Some) → length c.in-Some.ring.now ≡ 4096
+size c = ap length c.in-Some.ensures.cases.same ∙ c.in-Some.ensures.cases.long
+
+pub returns-in_err-tally : goal.returns-in_err-tally
+returns-in_err-tally c = let a = c.args in
+    let p = err_from_is_err_and c.from_residual.result c.from_residual.ensures.1 in
+    let e = refusal_is _ BadRecords c.inspect.result c.in_err-tally.ensures.ok_part c.in_err-tally.ensures.value in
+    rw (p.1, p.2, e, ← same (goal.at.returns-in_err-tally c).In-Some) (finish_records a.list.now a.consumed a.replied c.in-Some.ring.now a.ticket a.status (size (goal.at.returns-in_err-tally c).In-Some) (sym c.inspect.ensures.good ∙ ap is_some c.in_err-tally.ensures.ok_part))
+
+pub finish_held-requires : goal.finish_held-requires
+finish_held-requires c = (c.inspect.ensures.seen c.in_ok-tally.tally c.in_ok-tally.ensures.ok_part).indexed
 
 pub returns : goal.returns
-returns c = let a = c.args in let s = c.inspect-s in let f = c.finish_held in
-    let ok : s.result.good ≡ true = not-false s.result.good c.if-not-s.false in
-    finish_valid a.list.now a.consumed a.replied a.ring.now a.ticket a.status (size (goal.at.returns c).Else-not-is_page) (sym s.ensures.good ∙ ok) f.result f.new.ring f.new.list
-    (f.ensures a.consumed (s.ensures.seen ok).slots)
+returns c = let a = c.args in let f = c.finish_held in
+    let is = c.in_ok-tally.ensures.ok_part in
+    rw (← same (goal.at.returns c).In-Some) (finish_valid a.list.now a.consumed a.replied c.in-Some.ring.now a.ticket a.status (size (goal.at.returns c).In-Some) (sym c.inspect.ensures.good ∙ ap is_some is) f.result f.new.ring f.new.list
+    (f.ensures a.consumed (c.inspect.ensures.seen c.in_ok-tally.tally is).slots))

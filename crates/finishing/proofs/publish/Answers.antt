@@ -1,4 +1,4 @@
--- `publish` meets its contract: where no slot is replied to the counter stays, and that is no event.
+-- Where no slot is replied to the counter stays, and that is no event.
 use borrow.Author.Rules.{rules}
 use Rattle.finishing.proofs.Answers.{published_none, published_some}
 use Rattle.finishing.proofs.publish.Goals as goal
@@ -8,6 +8,5 @@ returns-then-slots-eq0 c = let a = c.args in published_none a.ring.now a.replied
 
 pub returns : goal.returns
 returns c = let a = c.args in
-    let new = c.ahead-new in
     let moved = c.publish-notify in
-    published_some a.ring.now a.replied a.slots c.if-slots-eq0.false new.result new.ensures moved.result _ moved.ensures
+    published_some a.ring.now a.replied a.slots c.if-slots-eq0.false c.ahead.result c.ahead.ensures moved.result _ moved.ensures

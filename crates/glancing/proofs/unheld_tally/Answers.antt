@@ -7,8 +7,8 @@ use Rattle.glancing.proofs.unheld_tally.Goals.{then-list-gt-MOST_RECORDS-via-the
 pub returns-then-list-gt-MOST_RECORDS : goal.returns-then-list-gt-MOST_RECORDS
 returns-then-list-gt-MOST_RECORDS c = let l = c.args.list.now in
     elim c.then-list-gt-MOST_RECORDS.branch [
-      then-list-gt-MOST_RECORDS-via-then-list-gt-MOST_RECORDS w ↦ unheld_long l w.if-list-gt-MOST_RECORDS.true
-    | then-list-gt-MOST_RECORDS-via-else-list-gt-MOST_RECORDS+then-not-all_free w ↦ unheld_used l w.if-list-gt-MOST_RECORDS.false (sym w.all_free.ensures ∙ w.if-not-all_free.true)
+      | then-list-gt-MOST_RECORDS-via-then-list-gt-MOST_RECORDS w ↦ unheld_long l w.if-list-gt-MOST_RECORDS.true
+      | then-list-gt-MOST_RECORDS-via-else-list-gt-MOST_RECORDS+then-not-all_free w ↦ unheld_used l w.if-list-gt-MOST_RECORDS.false (sym w.all_free.ensures ∙ w.if-not-all_free.true)
     ]
 
 pub returns-then-is_empty : goal.returns-then-is_empty

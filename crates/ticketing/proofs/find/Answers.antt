@@ -21,6 +21,6 @@ returns-then-holds c = let a = c.args in
 pub returns-else-offset-slots : goal.returns-else-offset-slots
 returns-else-offset-slots c = let a = c.args in
     elim c.else-offset-slots.branch [
-      else-offset-slots-via-then-offset-slots+else-holds w ↦ find_none a.index.now _ a.slots w.if-offset-slots.true (eqb-true _ 0 (not-false _ (sym w.holds.ensures ∙ w.if-holds.false)))
-    | else-offset-slots-via-else-offset-slots w ↦ find_beyond a.index.now _ a.slots w.if-offset-slots.false
+      | else-offset-slots-via-then-offset-slots+else-holds w ↦ find_none a.index.now _ a.slots w.if-offset-slots.true (eqb-true _ 0 (not-false _ (sym w.holds.ensures ∙ w.if-holds.false)))
+      | else-offset-slots-via-else-offset-slots w ↦ find_beyond a.index.now _ a.slots w.if-offset-slots.false
     ] ∙ there a.index.now a.ticket a.replied a.slots c.ranges.replied.fits

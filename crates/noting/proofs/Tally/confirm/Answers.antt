@@ -10,6 +10,6 @@ returns-then-chain c = confirm_all c.args.self c.args.index.now c.args.between c
 pub returns-else-self-between : goal.returns-else-self-between
 returns-else-self-between c = let a = c.args in
     elim c.else-self-between.branch [
-      else-self-between-via-then-self-between+else-chain w ↦ confirm_gap a.self a.index.now a.between w.if-self-between.true (sym w.chain.ensures ∙ w.if-chain.false)
-    | else-self-between-via-else-self-between w ↦ confirm_sum a.self a.index.now a.between w.if-self-between.false
+      | else-self-between-via-then-self-between+else-chain w ↦ confirm_gap a.self a.index.now a.between w.if-self-between.true (sym w.chain.ensures ∙ w.if-chain.false)
+      | else-self-between-via-else-self-between w ↦ confirm_sum a.self a.index.now a.between w.if-self-between.false
     ]

@@ -33,10 +33,10 @@ returns-then-not-fits_at-clause-notes c = let a = c.args in
     let at : o ≡ wsub a.h.ticket a.replied = offset_is a.h.ticket a.replied c.ranges.replied.fits in
     let some = used (goal.at.returns-then-not-fits_at-clause-notes c).Else-is_free in
     elim c.then-not-fits_at.branch [
-      then-not-fits_at-via-then-not-fits_at w ↦ note_unfit a.self a.i a.h a.replied a.between a.index.now some o at (sym c.fits_at.ensures ∙ w.if-not-fits_at.true)
-    | then-not-fits_at-via-else-not-fits_at+then-holds w ↦
-        note_taken a.self a.i a.h a.replied a.between a.index.now some o at (sym c.fits_at.ensures ∙ w.if-not-fits_at.false)
-        (eqb-false _ 0 (not-true _ (sym w.holds.ensures ∙ w.if-holds.true)))
+      | then-not-fits_at-via-then-not-fits_at w ↦ note_unfit a.self a.i a.h a.replied a.between a.index.now some o at (sym c.fits_at.ensures ∙ w.if-not-fits_at.true)
+      | then-not-fits_at-via-else-not-fits_at+then-holds w ↦
+          note_taken a.self a.i a.h a.replied a.between a.index.now some o at (sym c.fits_at.ensures ∙ w.if-not-fits_at.false)
+          (eqb-false _ 0 (not-true _ (sym w.holds.ensures ∙ w.if-holds.true)))
     ]
 
 pub enter-requires : goal.enter-requires
