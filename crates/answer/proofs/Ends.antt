@@ -3,7 +3,7 @@ use mathlib.Core.Path.{◌≡◌, refl, ap, ◌∙◌}
 use mathlib.Core.List.{List}
 use mathlib.Core.Bool.{Bool, false}
 use Prim.Native.Nat.{ℕ}
-use Rattle.ring.specs.Ring.{wadd, notify, with_producer, ProducerMoved}
+use Rattle.ring.specs.Ring.{wadd, ProducerMoved}
 use Rattle.ring.specs.declared.Side.TheVariants.{Replies}
 use Rattle.answer.specs.Report.{Report, go_on, plain, report_of}
 use Rattle.answer.specs.Effect.{Effect, refusal, consume, Gives}

@@ -8,7 +8,7 @@ use lib.ListN.{length, take, drop, get_or, length-append, length-take, length-dr
 use lib.Seq.{take-suc}
 use Rattle.grant.specs.Grant.{page_part}
 use Rattle.words.specs.Word.{splice}
-use Rattle.words.proofs.Word.{splice_join, splice_length}
+use Rattle.words.proofs.Word.{splice_join}
 use Rattle.grammar.specs.declared.Part.{Part}
 use Rattle.packet.specs.Stages.{joined, InWindow}
 

@@ -31,7 +31,7 @@ use Rattle.grammar.specs.declared.Part.{Part}
 use Rattle.std.proofs.lemmas.List.{take_more_set}
 use Rattle.netif.specs.declared.DataSlot.{DataSlot}
 use Rattle.answer.specs.declared.Fault.{Fault}
-use Rattle.packet.specs.Judge.{total_of, own_part, parts, judge_sizes, judge_gso, judge_slot, judge_later, judge_slots, judge}
+use Rattle.packet.specs.Judge.{total_of, own_part, judge_sizes, judge_gso, judge_slot, judge_later, judge_slots, judge}
 use Rattle.packet.specs.Stages.{datas_of, slot_page, planned, later_plan, plan, part_by, slot_part, SizesOf, later_at}
 
 -- ---- causes 1 and 3

@@ -1,5 +1,5 @@
 -- `gather` meets its contract: the parts before this one stand joined at the front of the frame buffer. A turn is a step of `Joining`.
-use mathlib.Core.Path.{◌≡◌, refl, sym, ap, ◌∙◌}
+use mathlib.Core.Path.{refl, sym, ◌∙◌}
 use native.Mathlib.Omega.{arith}
 use Rattle.words.proofs.Word.{splice_none}
 use Rattle.packet.proofs.Joining.{next_fits, next_ends, next_stands}

@@ -6,7 +6,7 @@ use lib.ListN.{length}
 use Rattle.ring.proofs.Ring.{slots_length}
 use native.Mathlib.Omega.{arith}
 use Rattle.words.proofs.Word.{no_confusion}
-use Rattle.netif.specs.Slot.{Slot, offset}
+use Rattle.netif.specs.Slot.{Slot}
 use Rattle.netif.specs.Decode.{data_of}
 use Rattle.grammar.specs.Packet.{first_of}
 use Rattle.grammar.specs.Stages.{outline_of}
