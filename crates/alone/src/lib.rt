@@ -42,6 +42,17 @@ fn judge_alone(grants: &[u8], window: &[u8], head: DataSlot) -> Result<u32, Faul
     causes::judge_slot(grants, window, head, head.size, 0)
 }
 
+// The part of a packet of one slot, which lies in this page.
+fn part_of(head: DataSlot, page: u32) -> Part
+    ensures { result ≡ record { page = page; offset = head.offset; size = head.size } }
+{
+    Part {
+        page,
+        offset: head.offset,
+        size: head.size,
+    }
+}
+
 // A good packet of one slot, whose part lies in this page: copied and accepted if the frame buffer has room and a record is free.
 fn accept_alone(full: bool, head: DataSlot, page: u32, window: &[u8], frame: &mut [u8]) -> Answer
     requires { (4096 * page + 4096 ≤ length window.now) × (head.offset + head.size ≤ 4096) }
@@ -58,12 +69,7 @@ fn accept_alone(full: bool, head: DataSlot, page: u32, window: &[u8], frame: &mu
     if full {
         return Answer::NoRecord;
     }
-    let part = Part {
-        page,
-        offset: head.offset,
-        size: head.size,
-    };
-    gathering::copy_part(window, part, frame, 0);
+    gathering::copy_part(window, part_of(head, page), frame, 0);
     settling::accept(outline_of(head))
 }
 
@@ -100,15 +106,13 @@ pub fn hand_over(
         × ((a : Answer) → result ≡ Some a → a ≡ Done (summary_of 0 (packet_one ring.now first)) 0) }
 {
     let head = ring::read::<DataSlot>(ring, first);
-    let page = judge_alone(grants, window, head).ok()?;
-    if frame.len() < usize::from(head.size) {
+    let Ok(page) = judge_alone(grants, window, head) else {
+        return None;
+    };
+    let room = frame.len();
+    if room < usize::from(head.size) {
         return None;
     }
-    let part = Part {
-        page,
-        offset: head.offset,
-        size: head.size,
-    };
-    gathering::copy_part(window, part, frame, 0);
+    gathering::copy_part(window, part_of(head, page), frame, 0);
     Some(settling::accept(outline_of(head)))
 }

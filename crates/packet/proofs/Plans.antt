@@ -95,11 +95,11 @@ module _ (table window : List ℕ) (k n : ℕ) (d : DataSlot) (s : Slot) (is : d
   part_at q h = let e = found_at table window (gref s) (offset s) n q (found h) in rw (e.0, e.1, e.2)
 
 -- and its verdict, by its part
-by_bad : (v : Verdict) (page : ℕ) (f : Fault) → Err f ≡ part_by v page → v ≡ Err f
+pub by_bad : (v : Verdict) (page : ℕ) (f : Fault) → Err f ≡ part_by v page → v ≡ Err f
 by_bad (Ok u) page f h = no_confusion cc
 by_bad (Err g) page f h = cc
 
-by_at : (v : Verdict) (page q : ℕ) → Ok q ≡ part_by v page → (v ≡ good) × (q ≡ page)
+pub by_at : (v : Verdict) (page q : ℕ) → Ok q ≡ part_by v page → (v ≡ good) × (q ≡ page)
 by_at (Ok u) page q h = (refl, (cc))
 by_at (Err f) page q h = no_confusion cc
 
