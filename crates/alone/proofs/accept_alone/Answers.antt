@@ -25,6 +25,6 @@ pub returns : goal.returns
 returns c table page first replied l lent head fine at = let a = c.args in
     let p = packet_one page first in
     let room : full l ≡ false = lent.fullness ∙ c.if-full.false in
-    let written = c.copy_part.ensures ∙ ap (splice a.frame.now 0) (alone_frame page first a.head head table a.window.now a.page at) in
+    let written = (rw c.part_of.ensures at c.copy_part.ensures) ∙ ap (splice a.frame.now 0) (alone_frame page first a.head head table a.window.now a.page at) in
     rw (packet_done table a.window.now (go_on first replied) page a.frame.now l 0 p fine (omega (arith, c.from.ensures, alone_total page first a.head head, c.if-frame-from.false)) room, written)
     (gives_done table a.window.now page a.frame.now first replied l 0 p _ ((rw c.outline_of.ensures at c.accept.ensures) p (alone_ready page first a.head head).outline) (record { sound = lent.sound; fullness = room }))

@@ -23,10 +23,11 @@ copy_part-requires c = let a = c.args in
     let p = packet_one page a.first in
     let head = c.read-head in
     let told = by_at (judge table window 0 p) (slot_page table (transmit_slot page a.first)) c.in-Ok.page (sym c.in-Ok.is ∙ c.judge_alone.ensures page a.first head.ensures) in
-    let inside = slot_inside table window 0 (transmit_slot page a.first) (own_part 0 p) (good_parts table window 0 p told.0).1 in (
+    let inside = slot_inside table window 0 (transmit_slot page a.first) (own_part 0 p) (good_parts table window 0 p told.0).1 in
+    rw c.part_of.ensures (
       omega (arith, ap (λ x. 4096 * x + 4096) told.1, inside.0),
       omega (arith, offset_is page a.first head.result head.ensures, own_is page a.first head.result head.ensures, inside.1),
-      omega (arith, c.from.ensures, c.if-frame-from.false),
+      omega (arith, c.from.ensures, c.if-room-from.false),
     )
 
 pub returns : goal.returns
@@ -37,12 +38,12 @@ returns c = let a = c.args in
     let p = packet_one page a.first in
     let head = c.read-head in
     let told = by_at (judge table window 0 p) (slot_page table (transmit_slot page a.first)) c.in-Ok.page (sym c.in-Ok.is ∙ c.judge_alone.ensures page a.first head.ensures) in
-    let room : head.result.size ≤ length a.frame.now = omega (arith, c.from.ensures, c.if-frame-from.false) in (
+    let room : head.result.size ≤ length a.frame.now = omega (arith, c.from.ensures, c.if-room-from.false) in (
       record {
         not = λ h. no_confusion cc;
         good = λ h. told.0;
         fits = λ h. omega (arith, alone_total page a.first head.result head.ensures, room);
-        copied = λ h. c.copy_part.ensures ∙ ap (splice a.frame.now 0) (alone_frame page a.first head.result head.ensures table window c.in-Ok.page told.1);
+        copied = λ h. (rw c.part_of.ensures at c.copy_part.ensures) ∙ ap (splice a.frame.now 0) (alone_frame page a.first head.result head.ensures table window c.in-Ok.page told.1);
       },
       λ b h. let same : c.accept.result ≡ b = cc in
           sym same ∙ (rw c.outline_of.ensures at c.accept.ensures) p (alone_ready page a.first head.result head.ensures).outline,
