@@ -8,6 +8,7 @@ use lib.ListN.{length, take, drop, get_or, length-drop}
 use lib.Seq.{drop-cons, get_or-take, length-take-le, take_all}
 use lib.Dec.{ltb, eqb}
 use borrow.Author.Tests.{eq-eqb, lt-ltb, le-ltb, ltb-false, not-false}
+use Rattle.std.specs.Prelude.{Option, Ok, Err}
 use Rattle.words.specs.Word.{splice}
 use Rattle.words.proofs.Word.{or_none}
 use Rattle.ring.specs.Ring.{wadd, req_prod, notify, ProducerMoved, slot_place, with_slots, with_producer, with_posted}
@@ -21,7 +22,8 @@ use Rattle.receive.specs.Put.{bad_length, needed, scatter}
 use Rattle.receive.proofs.Calls.{one_piece}
 use Rattle.frontend.specs.declared.Gso.{Gso}
 use Rattle.answer.specs.Report.{done_report, plain_summary}
-use Rattle.frontend.specs.declared.Answer.TheVariants.{Posted, BadPage, BadLength, NoSlots, BadPages, BadGso}
+use Rattle.frontend.specs.declared.Posted.{Posted}
+use Rattle.frontend.specs.declared.Refusal.TheVariants.{BadPage, BadLength, NoSlots, BadPages, BadGso}
 use Rattle.frontend.specs.Pages.{all_fit, twice, pages_of, bad_pages}
 use Rattle.frontend.specs.Post.{gso_extras, bad_gso, flags_for, others, data_for, later_for, extras_for, packet_for, free_slots, slots_for, post_packet, post}
 use Rattle.frontend.specs.Stages.{PagesTested, WithPacket, Posts}
@@ -37,7 +39,7 @@ more_later : (l : List ℕ) (count : ℕ) → suc (length l) ≡ count → other
 more_later [] count h = rw (← h) refl
 more_later (g ∷ l) count h = sym (lt-ltb 1 count (omega arith))
 
-module _ (page : List ℕ) (size : length page ≡ 4096) (o : Gso) (g : ℕ) (l frame : List ℕ) (count e fl : ℕ) (counts : suc (length l) ≡ count) (extras : e ≡ gso_extras o) (flagged : fl ≡ flags_for (ltb 1 count) (ltb 0 e)) where
+module _ (page : List ℕ) (size : length page ≡ 4096) (o : Option Gso) (g : ℕ) (l frame : List ℕ) (count e fl : ℕ) (counts : suc (length l) ≡ count) (extras : e ≡ gso_extras o) (flagged : fl ≡ flags_for (ltb 1 count) (ltb 0 e)) where
   abbrev p : List Slot
   p = packet_for (req_prod page) o (g ∷ l) frame
 
@@ -83,7 +85,7 @@ used_cons refs count h k = drop-cons (take count refs) 0 0 (omega (arith, length
 pub used_count : (refs : List ℕ) (count : ℕ) → 1 ≤ count → count ≤ length refs → suc (length (drop 1 (take count refs))) ≡ count
 used_count refs count h k = omega (arith, length-drop 1 (take count refs), length-take-le count refs k)
 
-pub packet_slots : (n : ℕ) (o : Gso) (refs frame : List ℕ) (count : ℕ) → 1 ≤ count → count ≤ length refs → length (packet_for n o (take count refs) frame) ≡ count + gso_extras o
+pub packet_slots : (n : ℕ) (o : Option Gso) (refs frame : List ℕ) (count : ℕ) → 1 ≤ count → count ≤ length refs → length (packet_for n o (take count refs) frame) ≡ count + gso_extras o
 packet_slots n o refs frame count h k =
     rw (used_cons refs count h k) (packet_count n o (get_or refs 0 0) (drop 1 (take count refs)) frame ∙ ap (◌+ gso_extras o) (used_count refs count h k))
 
@@ -121,18 +123,18 @@ sorted_facts table window refs k pages r s h =
 pub one_scattered : (window frame : List ℕ) (p : ℕ) → needed (length frame) ≡ 1 → with_page window p frame ≡ scatter window (take 1 (p ∷ [])) frame
 one_scattered window frame p h = ap (with_page window p) (sym (take_all 4096 frame (one_piece (length frame) h)))
 
-module _ (table page window : List ℕ) (read : ℕ) (o : Gso) (refs frame : List ℕ) where
-  pub posts_bad_page : eqb (length page) 4096 ≡ false → Posts (post table page window read o refs frame) BadPage page window
+module _ (table page window : List ℕ) (read : ℕ) (o : Option Gso) (refs frame : List ℕ) where
+  pub posts_bad_page : eqb (length page) 4096 ≡ false → Posts (post table page window read o refs frame) (Err BadPage) page window
   unfolding post
   posts_bad_page h = rw h (record { report = refl; page = refl; window = refl })
 
   module _ (size : eqb (length page) 4096 ≡ true) where
-    pub posts_bad_length : bad_length (length frame) ≡ true → Posts (post table page window read o refs frame) BadLength page window
+    pub posts_bad_length : bad_length (length frame) ≡ true → Posts (post table page window read o refs frame) (Err BadLength) page window
     unfolding post
     posts_bad_length h = rw (size, h) (record { report = refl; page = refl; window = refl })
 
     module _ (framed : bad_length (length frame) ≡ false) where
-      pub posts_bad_gso : bad_gso o ≡ true → Posts (post table page window read o refs frame) BadGso page window
+      pub posts_bad_gso : bad_gso o ≡ true → Posts (post table page window read o refs frame) (Err BadGso) page window
       unfolding post
       posts_bad_gso h = rw (size, framed, h) (record { report = refl; page = refl; window = refl })
 
@@ -140,7 +142,7 @@ module _ (table page window : List ℕ) (read : ℕ) (o : Gso) (refs frame : Lis
     bad_as : bad_pages table window refs (needed (length frame)) ≡ r
     bad_as = ap (bad_pages table window refs) (sym count) ∙ sym sorted.answer
 
-    pub posts_bad_pages : r ≡ true → Posts (post table page window read o refs frame) BadPages page window
+    pub posts_bad_pages : r ≡ true → Posts (post table page window read o refs frame) (Err BadPages) page window
     unfolding post
     posts_bad_pages h = rw (eq-eqb (length page) 4096 size, framed, gso, bad_as ∙ h) (record { report = refl; page = refl; window = refl })
 
@@ -149,13 +151,13 @@ module _ (table page window : List ℕ) (read : ℕ) (o : Gso) (refs frame : Lis
       unfolding slots_for
       slots_as = rw (count, extras) refl
 
-      pub posts_no_slots : f < k + e → Posts (post table page window read o refs frame) NoSlots page window
+      pub posts_no_slots : f < k + e → Posts (post table page window read o refs frame) (Err NoSlots) page window
       unfolding post
       posts_no_slots h =
           rw (eq-eqb (length page) 4096 size, framed, gso, bad_as ∙ good, ← free, slots_as, lt-ltb f (k + e) h) (record { report = refl; page = refl; window = refl })
 
       pub posts_posted : k + e ≤ f → (window' page' : List ℕ) (n : Bool) → window' ≡ scatter window (take k pages) frame → WithPacket page o (take k refs) frame page' n
-          → Posts (post table page window read o refs frame) (Posted (k + e) n) page' window'
+          → Posts (post table page window read o refs frame) (Ok (record { slots = k + e; notify = n })) page' window'
       unfolding post post_packet
       posts_posted h window' page' n w p =
           let c = frame_counts (length frame) k framed count in

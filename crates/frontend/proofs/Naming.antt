@@ -7,15 +7,13 @@ use native.Mathlib.Omega.{arith}
 use lib.ListN.{length, take, get_or}
 use lib.Seq.{take-suc}
 use borrow.Author.Tests.{lt-ltb, le-ltb}
+use Rattle.std.specs.Prelude.{Some, None, Ok}
 use Rattle.words.proofs.Word.{no_confusion}
 use Rattle.grant.specs.Lookup.{write_page}
-use Rattle.grant.specs.declared.Page.TheVariants as found
 use Rattle.grant.proofs.Grant.{fit_page, receive_transmit, write_fit, write_unfit}
 use Rattle.frontend.specs.Pages.{bad_pages}
-use Rattle.frontend.specs.Search.{ended}
+use Rattle.frontend.specs.Search.{Search, ended}
 use Rattle.frontend.specs.Stages.{Searched, PagesTested}
-use Rattle.frontend.specs.declared.Search.{Search}
-use Rattle.frontend.specs.declared.Search.TheVariants.{Apart}
 use Rattle.frontend.proofs.Searching.{ended_bad}
 
 module _ (table window refs : List ℕ) (count : ℕ) where
@@ -33,7 +31,7 @@ module _ (table window refs : List ℕ) (count : ℕ) where
     pub sorted_ended : ended r ≡ true → PagesTested table window refs count pages true
     sorted_ended h = record { answer = sym h ∙ searched; named = λ z. no_confusion cc }
 
-    pub sorted_apart : r ≡ Apart → PagesTested table window refs count pages false
+    pub sorted_apart : r ≡ Ok tt → PagesTested table window refs count pages false
     sorted_apart h = record { answer = sym (ap ended h) ∙ searched; named = λ z. s.named h }
 
 -- ---- one reference
@@ -42,14 +40,14 @@ module _ (table window refs : List ℕ) (some : 1 ≤ length refs) where
   only : take 1 refs ≡ get_or refs 0 0 ∷ []
   only = take-suc refs 0 0 (omega arith)
 
-  pub one_unfit : found.Unfit ≡ write_page table window (get_or refs 0 0) → PagesTested table window refs 1 [] true
+  pub one_unfit : None ≡ write_page table window (get_or refs 0 0) → PagesTested table window refs 1 [] true
   unfolding bad_pages
   one_unfit h = record {
     answer = rw (le-ltb (length refs) 1 some, only, write_unfit table window (get_or refs 0 0) h) refl;
     named = λ z. no_confusion cc;
   }
 
-  pub one_fit : (p : ℕ) → found.Fit p ≡ write_page table window (get_or refs 0 0) → PagesTested table window refs 1 (p ∷ []) false
+  pub one_fit : (p : ℕ) → Some p ≡ write_page table window (get_or refs 0 0) → PagesTested table window refs 1 (p ∷ []) false
   unfolding bad_pages
   one_fit p h =
       let (fit, page) = write_fit table window (get_or refs 0 0) p h in
@@ -58,7 +56,7 @@ module _ (table window refs : List ℕ) (some : 1 ≤ length refs) where
         named = λ z. rw (only, page) refl;
       }
 
-  pub one_page : (p : ℕ) → found.Fit p ≡ write_page table window (get_or refs 0 0) → 4096 * p + 4096 ≤ length window
+  pub one_page : (p : ℕ) → Some p ≡ write_page table window (get_or refs 0 0) → 4096 * p + 4096 ≤ length window
   one_page p h =
       let (fit, page) = write_fit table window (get_or refs 0 0) p h in
       rw page (fit_page table window (get_or refs 0 0) (receive_transmit table window (get_or refs 0 0) fit))

@@ -10,6 +10,7 @@ use lib.ListN.{length, take, drop, length-take}
 use lib.Seq.{take_at}
 use lib.Dec.{ltb, eqb}
 use borrow.Author.Tests.{eqb-true, ltb-false, le-ltb, not-false}
+use Rattle.std.specs.Prelude.{Option}
 use Rattle.words.specs.Word.{splice}
 use Rattle.words.proofs.Word.{or_none}
 use Rattle.ring.specs.Ring.{wrap, wadd, wsub, req_prod, posted, with_posted}
@@ -18,7 +19,7 @@ use Rattle.ring.proofs.Counters.{posted_of, wadd_wadd, wsub_on}
 use Rattle.netif.specs.Slot.{Slot, transmit_slots}
 use Rattle.grammar.specs.Divide.{whole, divide}
 use Rattle.answer.specs.Report.{flag}
-use Rattle.answer.specs.declared.Verdict.TheVariants.{Good}
+use Rattle.answer.specs.Verdict.{good}
 use Rattle.grammar.proofs.Grammar.{packet_divide}
 use Rattle.packet.specs.Judge.{total_of, judge, frame_of}
 use Rattle.held.specs.declared.Held.{Held}
@@ -48,7 +49,7 @@ step : (b : Bool) (n : ℕ) (page window : List ℕ) (y : Posting) → (cond b (
 step true n page window y h = absurd (omega arith)
 step false n page window y h = (refl, refl, h)
 
-pub record Accepted (table page window : List ℕ) (read : ℕ) (o : Gso) (refs frame : List ℕ) : Type 0 where
+pub record Accepted (table page window : List ℕ) (read : ℕ) (o : Option Gso) (refs frame : List ℕ) : Type 0 where
   pub size : length page ≡ 4096
   pub long : 14 ≤ length frame
   pub small : length frame < 65536
@@ -59,7 +60,7 @@ pub record Accepted (table page window : List ℕ) (read : ℕ) (o : Gso) (refs 
   pub free : slots_for o (length frame) ≤ free_slots page read
   pub result : post table page window read o refs frame ≡ post_packet table page window o refs frame
 
-pub accepted : (table page window : List ℕ) (read : ℕ) (o : Gso) (refs frame : List ℕ) → (post table page window read o refs frame).report.answer ≡ 0 → Accepted table page window read o refs frame
+pub accepted : (table page window : List ℕ) (read : ℕ) (o : Option Gso) (refs frame : List ℕ) → (post table page window read o refs frame).report.answer ≡ 0 → Accepted table page window read o refs frame
 unfolding post bad_length bad_pages
 accepted table page window read o refs frame h =
     let (a, ea, ha) = step (not (eqb (length page) 4096)) 0 page window _ h in
@@ -84,7 +85,7 @@ accepted table page window read o refs frame h =
 
 -- ---- the slots of a frame
 
-pub slots_count : (o : Gso) (n k : ℕ) → k ≡ needed n → k + gso_extras o ≡ slots_for o n
+pub slots_count : (o : Option Gso) (n k : ℕ) → k ≡ needed n → k + gso_extras o ≡ slots_for o n
 unfolding slots_for
 slots_count o n k h = ap (◌+ gso_extras o) h
 
@@ -108,7 +109,7 @@ free_fits page read replied n a b some = omega arith
 
 -- ---- what a done call leaves
 
-module _ (table page window : List ℕ) (read : ℕ) (o : Gso) (refs frame : List ℕ) (h : (post table page window read o refs frame).report.answer ≡ 0) where
+module _ (table page window : List ℕ) (read : ℕ) (o : Option Gso) (refs frame : List ℕ) (h : (post table page window read o refs frame).report.answer ≡ 0) where
   packet_slots : (u : List ℕ) → length u ≡ needed (length frame) → 14 ≤ length frame → length (packet_for (req_prod page) o u frame) ≡ slots_for o (length frame)
   packet_slots [] count long = let x : length frame ≤ 4096 * needed (length frame) = needed_reach (length frame) in absurd (omega arith)
   packet_slots (g ∷ l) count long = packet_count (req_prod page) o g l frame ∙ slots_count o (length frame) (suc (length l)) count
@@ -130,7 +131,7 @@ module _ (table page window : List ℕ) (read : ℕ) (o : Gso) (refs frame : Lis
 module _ (table window : List ℕ) (c replied : ℕ) (page buffer : List ℕ) (records : List Held) (size : length page ≡ 4096) (p t : List Slot) (some : 0 < length p)
     (requests : req_prod page ≡ wadd c (length p + length t)) (stands : transmit_slots page c (length p + length t) ≡ p ++ t) (fits : FitsRing c replied (length p + length t))
     (d e : ℕ) (cut : divide (p ++ t) ≡ whole d e) (count : length p ≡ d + e)
-    (good : judge table window e p ≡ Good) (long : total_of p ≤ length buffer) (free : full records ≡ false) (sound : valid c replied records ≡ true) where
+    (good : judge table window e p ≡ good) (long : total_of p ≤ length buffer) (free : full records ≡ false) (sound : valid c replied records ≡ true) where
   pub takes_front : transmit_take table window (go_on c replied) page buffer records ≡ handed_over table window (go_on c replied) page buffer records e p
   unfolding FitsRing
   takes_front =
@@ -142,7 +143,7 @@ module _ (table window : List ℕ) (c replied : ℕ) (page buffer : List ℕ) (r
       ∙ front_packet table window (go_on c replied) page buffer records (p ++ t) slots d e cut
       ∙ rw whole-p (packet_done table window (go_on c replied) page buffer records e p good long free)
 
-module _ (table window : List ℕ) (c replied : ℕ) (page buffer : List ℕ) (records : List Held) (o : Gso) (g : ℕ) (l frame : List ℕ) where
+module _ (table window : List ℕ) (c replied : ℕ) (page buffer : List ℕ) (records : List Held) (o : Option Gso) (g : ℕ) (l frame : List ℕ) where
   -- what a packet that was handed over gives
   module _ (r : TakeEffect) (h : r ≡ handed_over table window (go_on c replied) page buffer records (gso_extras o) (packet_for c o (g ∷ l) frame))
       (small : length frame < 65536) (sized : size_given o < 65536) (framed : frame_of table window (gso_extras o) (packet_for c o (g ∷ l) frame) ≡ frame) where
@@ -168,7 +169,7 @@ module _ (table window : List ℕ) (c replied : ℕ) (page buffer : List ℕ) (r
 
 -- ---- the round trip
 
-module _ (table window page : List ℕ) (read : ℕ) (o : Gso) (frame : List ℕ) (size : length page ≡ 4096) (long : 14 ≤ length frame) (small : length frame < 65536) (gso : bad_gso o ≡ false) (sized : size_given o < 65536)
+module _ (table window page : List ℕ) (read : ℕ) (o : Option Gso) (frame : List ℕ) (size : length page ≡ 4096) (long : 14 ≤ length frame) (small : length frame < 65536) (gso : bad_gso o ≡ false) (sized : size_given o < 65536)
     (g : ℕ) (l : List ℕ) (count : suc (length l) ≡ needed (length frame)) (refs : Refs (g ∷ l)) (fit : all_fit table window (g ∷ l) ≡ true) (apart : twice (pages_of table (g ∷ l)) ≡ false)
     (table' window' page' buffer : List ℕ) (replied : ℕ) (records : List Held) (more : ℕ)
     (grants : SameGrants table (scatter window (pages_of table (g ∷ l)) frame) table' window' (g ∷ l))
@@ -204,7 +205,7 @@ module _ (table window page : List ℕ) (read : ℕ) (o : Gso) (frame : List ℕ
       (scatter_holds table (g ∷ l) window frame (fit_usable table window (g ∷ l) fit) apart fits) in
       let readable : Readable table' window' (g ∷ l)
       = same_readable table (scatter window (pages_of table (g ∷ l)) frame) table' window' window (g ∷ l) after fit grants in
-      let good : judge table' window' (gso_extras o) p ≡ Good = judged_posted table' window' c o g l frame small fits refs long gso sized readable in
+      let good : judge table' window' (gso_extras o) p ≡ good = judged_posted table' window' c o g l frame small fits refs long gso sized readable in
       let total : total_of p ≡ length frame = total_posted c o g l frame small in
       let all : slots_for o (length frame) + more ≡ length p + length t = (λ i. sym n i + sym tail i) in
       let r : transmit_take table' window' (go_on c replied) page' buffer records ≡ handed_over table' window' (go_on c replied) page' buffer records (gso_extras o) p
@@ -219,7 +220,7 @@ refs_take [] (suc k) h = tt
 refs_take (g ∷ l) (suc k) h = (h.0, refs_take l k h.1)
 
 -- for the references that are used
-module _ (table window page : List ℕ) (read : ℕ) (o : Gso) (frame : List ℕ) (size : length page ≡ 4096) (long : 14 ≤ length frame) (small : length frame < 65536) (gso : bad_gso o ≡ false) (sized : size_given o < 65536)
+module _ (table window page : List ℕ) (read : ℕ) (o : Option Gso) (frame : List ℕ) (size : length page ≡ 4096) (long : 14 ≤ length frame) (small : length frame < 65536) (gso : bad_gso o ≡ false) (sized : size_given o < 65536)
     (table' window' page' buffer : List ℕ) (replied : ℕ) (records : List Held) (more : ℕ)
     (ring : FitsRing (req_prod page) replied (slots_for o (length frame) + more)) (room : HasRoom (req_prod page) replied records frame buffer) where
   finish : (u : List ℕ) → length u ≡ needed (length frame) → Refs u → all_fit table window u ≡ true → twice (pages_of table u) ≡ false

@@ -11,15 +11,14 @@ use lib.ListN.{length, take, drop, get_or, set, drop_of_length-le}
 use lib.Seq.{drop-cons, get_or-take, length-take-le, take-suc, take-suc-set}
 use lib.Dec.{eqb}
 use borrow.Author.Tests.{eqb-true, eq-eqb, ne_eqb}
+use Rattle.std.specs.Prelude.{Some, None, Ok, Err}
 use Rattle.words.proofs.Word.{no_confusion}
 use Rattle.grant.specs.Grant.{page_of, fit_receive}
 use Rattle.grant.specs.Lookup.{write_page}
-use Rattle.grant.specs.declared.Page.TheVariants as found
 use Rattle.grant.proofs.Grant.{write_fit, write_unfit}
 use Rattle.frontend.specs.Pages.{among, twice, all_fit, pages_of}
-use Rattle.frontend.specs.Search.{or_search, earlier, search_from, ended}
-use Rattle.frontend.specs.declared.Search.{Search}
-use Rattle.frontend.specs.declared.Search.TheVariants.{Unfit, Same, Apart}
+use Rattle.frontend.specs.Search.{Search, or_search, earlier, search_from, ended}
+use Rattle.frontend.specs.declared.Unusable.TheVariants.{Unfit, Same}
 
 -- ---- the loops
 
@@ -47,10 +46,10 @@ module _ (table window refs : List ℕ) (count : ℕ) (enough : count ≤ length
   at : (i : ℕ) → i < count → get_or l i 0 ≡ get_or refs i 0
   at i h = get_or-take count refs i 0 h
 
-  pub search_unfit : (i : ℕ) → i < count → found.Unfit ≡ write_page table window (get_or refs i 0) → from_reference table window l pages i ≡ Unfit
+  pub search_unfit : (i : ℕ) → i < count → None ≡ write_page table window (get_or refs i 0) → from_reference table window l pages i ≡ Err Unfit
   search_unfit i h u = rw (drop-cons l i 0 (omega (arith, used)), at i h, write_unfit table window (get_or refs i 0) u) refl
 
-  module _ (i : ℕ) (h : i < count) (x : ℕ) (fit : found.Fit x ≡ write_page table window (get_or refs i 0)) where
+  module _ (i : ℕ) (h : i < count) (x : ℕ) (fit : Some x ≡ write_page table window (get_or refs i 0)) where
     pub search_enters : i ≤ length pages → from_reference table window l pages i ≡ from_page table window l pages x i 0
     search_enters k =
         let (f, p) = write_fit table window (get_or refs i 0) x fit in
@@ -69,7 +68,7 @@ module _ (table window refs : List ℕ) (count : ℕ) (enough : count ≤ length
     here : drop j (take i pages) ≡ get_or pages j 0 ∷ drop (j + 1) (take i pages)
     here = rw (drop-cons (take i pages) j 0 (omega (arith, length-take-le i pages some)), get_or-take i pages j 0 h, add-one j) refl
 
-    pub search_hits : get_or pages j 0 ≡ x → from_page table window l pages x i j ≡ Same j i
+    pub search_hits : get_or pages j 0 ≡ x → from_page table window l pages x i j ≡ Err (Same j i)
     search_hits e = rw (here, eq-eqb (get_or pages j 0) x e) refl
 
     pub search_misses : (get_or pages j 0 ≡ x → ⊥) → from_page table window l pages x i j ≡ from_page table window l pages x i (j + 1)
@@ -81,11 +80,11 @@ module _ (table window refs : List ℕ) (count : ℕ) (enough : count ≤ length
       let more : take (i + 1) (set pages i x) ≡ take i pages ++ (x ∷ []) = rw (add-one i) (take-suc-set pages i x k) in
       rw (none, more) refl
 
-  pub search_ends : (i : ℕ) → count ≤ i → from_reference table window l pages i ≡ Apart
+  pub search_ends : (i : ℕ) → count ≤ i → from_reference table window l pages i ≡ Ok tt
   search_ends i h = rw (drop_of_length-le l {i = i} (omega (arith, used))) refl
 
 -- a search that ended found something
-pub not_apart : (r : Search) → ended r ≡ true → r ≡ Apart → ⊥
+pub not_apart : (r : Search) → ended r ≡ true → r ≡ Ok tt → ⊥
 not_apart r h e =
     let z : true ≡ false = sym h ∙ ap ended e in
     no_confusion cc
@@ -140,15 +139,14 @@ any_none [] = refl
 any_none (x ∷ l) = any_none l
 
 ended_or : (p q : Search) → ended (or_search p q) ≡ ended p || ended q
-ended_or Unfit q = refl
-ended_or (Same i j) q = refl
-ended_or Apart q = refl
+ended_or (Ok u) q = refl
+ended_or (Err e) q = refl
 
 ended_earlier : (x i j : ℕ) (l : List ℕ) → ended (earlier x i j l) ≡ among x l
 ended_earlier x i j [] = refl
 ended_earlier x i j (y ∷ l) = rw (eqb_swap x y) (go (eqb y x) (earlier x (suc i) j l) (among x l) (ended_earlier x (suc i) j l))
   where
-    go : (b : Bool) (p : Search) (c : Bool) → ended p ≡ c → ended (cond b (Same i j) p) ≡ b || c
+    go : (b : Bool) (p : Search) (c : Bool) → ended p ≡ c → ended (cond b (Err (Same i j)) p) ≡ b || c
     go true p c h = refl
     go false p c h = h
 
@@ -160,7 +158,7 @@ module _ (table window : List ℕ) where
       go : (b : Bool)
           → ended (search_from table window (seen ++ (page_of table g ∷ [])) l)
           ≡ not (all_fit table window l) || (any_among (pages_of table l) (seen ++ (page_of table g ∷ [])) || twice (pages_of table l))
-          → ended (cond b (or_search (earlier (page_of table g) 0 (length seen) seen) (search_from table window (seen ++ (page_of table g ∷ [])) l)) Unfit)
+          → ended (cond b (or_search (earlier (page_of table g) 0 (length seen) seen) (search_from table window (seen ++ (page_of table g ∷ [])) l)) (Err Unfit))
           ≡ not (b && all_fit table window l) || ((among (page_of table g) seen || any_among (pages_of table l) seen) || (among (page_of table g) (pages_of table l) || twice (pages_of table l)))
       go false h = refl
       go true h =

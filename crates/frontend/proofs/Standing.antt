@@ -4,6 +4,7 @@ use mathlib.Core.Bool.{false}
 use Prim.Native.Nat.{ℕ, suc, ◌+◌, ◌%◌, ◌<◌}
 use native.Mathlib.Omega.{arith}
 use lib.ListN.{length, take, drop}
+use Rattle.std.specs.Prelude.{Option, Some, None}
 use Rattle.words.specs.Word.{Bytes, u32_bytes}
 use Rattle.words.proofs.Word.{bytes_cons, bytes_append, bytes_u16, bytes_u32}
 use Rattle.ring.proofs.Posting.{Whole}
@@ -11,7 +12,6 @@ use Rattle.ring.proofs.Standing.{EachBytes}
 use Rattle.netif.specs.Encode.{data_bytes, extra_bytes}
 use Rattle.netif.proofs.Encode.{data_width, extra_width}
 use Rattle.frontend.specs.declared.Gso.{Gso}
-use Rattle.frontend.specs.declared.Gso.TheVariants.{Absent, Given}
 use Rattle.frontend.specs.Post.{type_given, flags_for, others, data_for, later_for, packet_for}
 
 -- ---- whole slots
@@ -21,11 +21,11 @@ unfolding data_for
 whole_later n [] frame = tt
 whole_later n (g ∷ l) frame = (data_width _, whole_later (suc n) l (drop 4096 frame))
 
-pub whole_packet : (n : ℕ) (o : Gso) (refs frame : List ℕ) → Whole 12 (packet_for n o refs frame)
+pub whole_packet : (n : ℕ) (o : Option Gso) (refs frame : List ℕ) → Whole 12 (packet_for n o refs frame)
 unfolding data_for
 whole_packet n o [] frame = tt
-whole_packet n Absent (g ∷ l) frame = (data_width _, whole_later (suc n + 0) l (drop 4096 frame))
-whole_packet n (Given m t) (g ∷ l) frame = (data_width _, (extra_width _, whole_later (suc n + 1) l (drop 4096 frame)))
+whole_packet n None (g ∷ l) frame = (data_width _, whole_later (suc n + 0) l (drop 4096 frame))
+whole_packet n (Some o) (g ∷ l) frame = (data_width _, (extra_width _, whole_later (suc n + 1) l (drop 4096 frame)))
 
 -- ---- bytes
 
@@ -47,7 +47,7 @@ bytes_later : (n : ℕ) (l frame : List ℕ) → EachBytes (later_for n l frame)
 bytes_later n [] frame = tt
 bytes_later n (g ∷ l) frame = (bytes_data n g (flags_for (others l) false) (length (take 4096 frame)), bytes_later (suc n) l (drop 4096 frame))
 
-pub bytes_packet : (n : ℕ) (o : Gso) (refs frame : List ℕ) → type_given o < 256 → EachBytes (packet_for n o refs frame)
+pub bytes_packet : (n : ℕ) (o : Option Gso) (refs frame : List ℕ) → type_given o < 256 → EachBytes (packet_for n o refs frame)
 bytes_packet n o [] frame h = tt
-bytes_packet n Absent (g ∷ l) frame h = (bytes_data n g _ (length frame), bytes_later (suc n + 0) l (drop 4096 frame))
-bytes_packet n (Given m t) (g ∷ l) frame h = (bytes_data n g _ (length frame), (bytes_extra m t h, bytes_later (suc n + 1) l (drop 4096 frame)))
+bytes_packet n None (g ∷ l) frame h = (bytes_data n g _ (length frame), bytes_later (suc n + 0) l (drop 4096 frame))
+bytes_packet n (Some o) (g ∷ l) frame h = (bytes_data n g _ (length frame), (bytes_extra o.size o.kind h, bytes_later (suc n + 1) l (drop 4096 frame)))
