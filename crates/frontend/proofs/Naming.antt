@@ -5,9 +5,10 @@ use mathlib.Core.Bool.{true, false}
 use Prim.Native.Nat.{ℕ, ◌+◌, ◌*◌, ◌≤◌, ◌<◌}
 use native.Mathlib.Omega.{arith}
 use lib.ListN.{length, take, get_or}
-use lib.Seq.{take-suc}
+use lib.Seq.{take-suc, length-take-le}
 use borrow.Author.Tests.{lt-ltb, le-ltb}
-use Rattle.std.specs.Prelude.{Some, None, Ok}
+use Rattle.std.specs.Prelude.{Some, None, Ok, Err}
+use Rattle.core.specs.Result.{is_err}
 use Rattle.words.proofs.Word.{no_confusion}
 use Rattle.grant.specs.Lookup.{write_page}
 use Rattle.grant.proofs.Grant.{fit_page, receive_transmit, write_fit, write_unfit}
@@ -23,16 +24,14 @@ module _ (table window refs : List ℕ) (count : ℕ) where
   sorted_short h pages = record { answer = rw (lt-ltb (length refs) count h) refl; named = λ z. no_confusion cc }
 
   -- it is long enough: by the search
-  module _ (enough : count ≤ length refs) (pages : List ℕ) (r : Search) (s : Searched table window refs count pages r) where
-    searched : ended r ≡ bad_pages table window refs count
+  module _ (enough : count ≤ length refs) (pages : List ℕ) where
+    searched : (r : Search) → Searched table window (take count refs) pages r → ended r ≡ bad_pages table window refs count
     unfolding bad_pages
-    searched = ap ended s.answer ∙ ended_bad table window (take count refs) ∙ sym (rw (le-ltb (length refs) count enough) refl)
+    searched r s = ap ended s.answer ∙ ended_bad table window (take count refs) ∙ sym (rw (le-ltb (length refs) count enough) refl)
 
-    pub sorted_ended : ended r ≡ true → PagesTested table window refs count pages true
-    sorted_ended h = record { answer = sym h ∙ searched; named = λ z. no_confusion cc }
-
-    pub sorted_apart : r ≡ Ok tt → PagesTested table window refs count pages false
-    sorted_apart h = record { answer = sym (ap ended h) ∙ searched; named = λ z. s.named h }
+    pub sorted_searched : (r : Search) → Searched table window (take count refs) pages r → PagesTested table window refs count pages (is_err r)
+    sorted_searched (Ok u) s = record { answer = searched (Ok u) s; named = λ z. rw (length-take-le count refs enough) at s.named refl }
+    sorted_searched (Err e) s = record { answer = searched (Err e) s; named = λ z. no_confusion cc }
 
 -- ---- one reference
 

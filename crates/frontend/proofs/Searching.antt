@@ -11,13 +11,16 @@ use lib.ListN.{length, take, drop, get_or, set, drop_of_length-le}
 use lib.Seq.{drop-cons, get_or-take, length-take-le, take-suc, take-suc-set}
 use lib.Dec.{eqb}
 use borrow.Author.Tests.{eqb-true, eq-eqb, ne_eqb}
-use Rattle.std.specs.Prelude.{Some, None, Ok, Err}
+use Rattle.std.specs.Prelude.{Option, Some, None, Result, Ok, Err}
+use Rattle.core.specs.Option.{ok_or}
 use Rattle.words.proofs.Word.{no_confusion}
 use Rattle.grant.specs.Grant.{page_of, fit_receive}
 use Rattle.grant.specs.Lookup.{write_page}
 use Rattle.grant.proofs.Grant.{write_fit, write_unfit}
 use Rattle.frontend.specs.Pages.{among, twice, all_fit, pages_of}
 use Rattle.frontend.specs.Search.{Search, or_search, earlier, search_from, ended}
+use Rattle.frontend.specs.Stages.{Searched}
+use Rattle.frontend.specs.declared.Unusable.{Unusable}
 use Rattle.frontend.specs.declared.Unusable.TheVariants.{Unfit, Same}
 
 -- ---- the loops
@@ -36,33 +39,24 @@ module _ (table window l pages : List ℕ) where
   abbrev pub from_page : (x i j : ℕ) → Search
   from_page x i j = or_search (earlier x j i (drop j (take i pages))) (search_from table window (take i pages ++ (x ∷ [])) (drop (i + 1) l))
 
-module _ (table window refs : List ℕ) (count : ℕ) (enough : count ≤ length refs) (pages : List ℕ) where
-  abbrev l : List ℕ
-  l = take count refs
+module _ (table window l pages : List ℕ) where
+  pub search_unfit : (i : ℕ) → i < length l → None ≡ write_page table window (get_or l i 0) → from_reference table window l pages i ≡ Err Unfit
+  search_unfit i h u = rw (drop-cons l i 0 h, write_unfit table window (get_or l i 0) u) refl
 
-  used : length l ≡ count
-  used = length-take-le count refs enough
-
-  at : (i : ℕ) → i < count → get_or l i 0 ≡ get_or refs i 0
-  at i h = get_or-take count refs i 0 h
-
-  pub search_unfit : (i : ℕ) → i < count → None ≡ write_page table window (get_or refs i 0) → from_reference table window l pages i ≡ Err Unfit
-  search_unfit i h u = rw (drop-cons l i 0 (omega (arith, used)), at i h, write_unfit table window (get_or refs i 0) u) refl
-
-  module _ (i : ℕ) (h : i < count) (x : ℕ) (fit : Some x ≡ write_page table window (get_or refs i 0)) where
+  module _ (i : ℕ) (h : i < length l) (x : ℕ) (fit : Some x ≡ write_page table window (get_or l i 0)) where
     pub search_enters : i ≤ length pages → from_reference table window l pages i ≡ from_page table window l pages x i 0
     search_enters k =
-        let (f, p) = write_fit table window (get_or refs i 0) x fit in
-        rw (drop-cons l i 0 (omega (arith, used)), at i h, f, ← p, length-take-le i pages k, add-one i) refl
+        let (f, p) = write_fit table window (get_or l i 0) x fit in
+        rw (drop-cons l i 0 h, f, ← p, length-take-le i pages k, add-one i) refl
 
     -- the table gets the page
-    pub table_next : i < length pages → take i pages ≡ pages_of table (take i refs) → take (i + 1) (set pages i x) ≡ pages_of table (take (i + 1) refs)
+    pub table_next : i < length pages → take i pages ≡ pages_of table (take i l) → take (i + 1) (set pages i x) ≡ pages_of table (take (i + 1) l)
     table_next k e =
         rw (add-one i)
         (take-suc-set pages i x k
-        ∙ rw (e, (write_fit table window (get_or refs i 0) x fit).1) refl
-        ∙ sym (map_snoc (page_of table) (take i refs) (get_or refs i 0))
-        ∙ ap (pages_of table) (sym (take-suc refs i 0 (omega arith))))
+        ∙ rw (e, (write_fit table window (get_or l i 0) x fit).1) refl
+        ∙ sym (map_snoc (page_of table) (take i l) (get_or l i 0))
+        ∙ ap (pages_of table) (sym (take-suc l i 0 h)))
 
   module _ (x i j : ℕ) (some : i ≤ length pages) (h : j < i) where
     here : drop j (take i pages) ≡ get_or pages j 0 ∷ drop (j + 1) (take i pages)
@@ -80,14 +74,20 @@ module _ (table window refs : List ℕ) (count : ℕ) (enough : count ≤ length
       let more : take (i + 1) (set pages i x) ≡ take i pages ++ (x ∷ []) = rw (add-one i) (take-suc-set pages i x k) in
       rw (none, more) refl
 
-  pub search_ends : (i : ℕ) → count ≤ i → from_reference table window l pages i ≡ Ok tt
-  search_ends i h = rw (drop_of_length-le l {i = i} (omega (arith, used))) refl
+  pub search_ends : (i : ℕ) → length l ≤ i → from_reference table window l pages i ≡ Ok tt
+  search_ends i h = rw (drop_of_length-le l {i = i} h) refl
 
--- a search that ended found something
-pub not_apart : (r : Search) → ended r ≡ true → r ≡ Ok tt → ⊥
-not_apart r h e =
-    let z : true ≡ false = sym h ∙ ap ended e in
-    no_confusion cc
+-- the one error that a lookup is told by
+abbrev error_of : Result ℕ Unusable → Unusable
+error_of (Ok n) = Unfit
+error_of (Err e) = e
+
+pub told_unfit : (o : Option ℕ) (e : Unusable) → Err e ≡ ok_or o Unfit → o ≡ None → e ≡ Unfit
+told_unfit o e h n = ap error_of (h ∙ ap (λ (x : Option ℕ). ok_or x Unfit) n)
+
+-- a search that ended promises nothing of the table
+pub searched_ended : (table window l pages : List ℕ) (e : Unusable) → search_from table window [] l ≡ Err e → Searched table window l pages (Err e)
+searched_ended table window l pages e h = record { answer = sym h; named = λ z. no_confusion cc }
 
 -- ---- it ends before the last reference exactly if one is not fit or a page is named twice
 

@@ -11,10 +11,10 @@ use Rattle.frontend.specs.Pages.{pages_of, bad_pages}
 use Rattle.frontend.specs.Search.{search_from}
 use Rattle.frontend.specs.Post.{Posting, report_of, packet_for}
 
--- the search was made; where it found nothing, the table starts with the pages that count references name
-pub record Searched (table window refs : List ℕ) (count : ℕ) (pages : List ℕ) (r : Result Unit Unusable) : Type 0 where
-  pub answer : r ≡ search_from table window [] (take count refs)
-  pub named : r ≡ Ok tt → take count pages ≡ pages_of table (take count refs)
+-- the search was made; where it found nothing, the table starts with the pages that the references name
+pub record Searched (table window refs pages : List ℕ) (r : Result Unit Unusable) : Type 0 where
+  pub answer : r ≡ search_from table window [] refs
+  pub named : r ≡ Ok tt → take (length refs) pages ≡ pages_of table refs
 
 -- answer 12 was looked for; where it does not hold, the table starts with the pages
 pub record PagesTested (table window refs : List ℕ) (count : ℕ) (pages : List ℕ) (r : Bool) : Type 0 where
