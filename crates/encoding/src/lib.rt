@@ -11,9 +11,6 @@ ghost use Rattle.frontend.specs.Post.{flags_for, data_for};
 use netif::{DataSlot, Extra};
 use ring::Page;
 
-// The extra's own type.
-const GSO: u16 = 1;
-
 // Flags of a data slot: more data follows, an extra follows.
 const MORE: u16 = 4;
 
@@ -33,17 +30,15 @@ const GSO_TYPE: usize = 4;
 const UNUSED: usize = 8;
 
 // The flags of a data slot.
+#[tactic(auto, unfolding(frontend::specs::Post::flags_for))]
 pub fn flags(more: bool, extra: bool) -> u16
     ensures { result ≡ flags_for more extra }
 {
-    if more {
-        if extra { MORE + EXTRA } else { MORE }
-    } else {
-        if extra { EXTRA } else { 0 }
-    }
+    MORE * u16::from(more) + EXTRA * u16::from(extra)
 }
 
 // Writes a data slot at a counter.
+#[tactic(auto, using(ring::proofs::Ring::place_fits))]
 pub fn put_data(ring: &mut Page, n: u32, gref: u32, flags: u16, size: u16)
     ensures { ring.new ≡ splice ring.old (slot_place slot_width slot_count n) (data_for n gref flags size) }
 {
@@ -54,12 +49,13 @@ pub fn put_data(ring: &mut Page, n: u32, gref: u32, flags: u16, size: u16)
 }
 
 // Writes an extra at a counter.
+#[tactic(auto, using(ring::proofs::Ring::place_fits))]
 pub fn put_extra(ring: &mut Page, n: u32, size: u16, kind: u8)
     ensures { ring.new ≡ splice ring.old (slot_place slot_width slot_count n)
         (extra_bytes (record { kind = 1; flags = 0; gso_size = size; gso_type = kind })) }
 {
     let at = ring::place::<Extra>(n);
-    words::put_pair(ring, at, GSO, size);
-    words::put_u32(ring, at + GSO_TYPE, kind as u32);
+    words::put_pair(ring, at, u16::from(Extra::GSO), size);
+    words::put_u32(ring, at + GSO_TYPE, u32::from(kind));
     words::put_u32(ring, at + UNUSED, 0);
 }

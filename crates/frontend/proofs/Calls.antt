@@ -2,7 +2,7 @@
 use mathlib.Core.Path.{◌≡◌, refl, sym, ap, ◌∙◌}
 use mathlib.Core.List.{List, [], ◌∷◌, ◌++◌}
 use mathlib.Core.Bool.{Bool, true, false, not, ◌||◌}
-use Prim.Native.Nat.{ℕ, suc, ◌+◌, ◌*◌, ◌≤◌, ◌<◌}
+use Prim.Native.Nat.{ℕ, suc, ◌+◌, ◌-◌, ◌*◌, ◌≤◌, ◌<◌}
 use native.Mathlib.Omega.{arith}
 use lib.ListN.{length, take, drop, get_or, length-drop}
 use lib.Seq.{drop-cons, get_or-take, length-take-le, take_all}
@@ -21,11 +21,13 @@ use Rattle.grant.specs.Grant.{with_page}
 use Rattle.receive.specs.Put.{bad_length, needed, scatter}
 use Rattle.receive.proofs.Calls.{one_piece}
 use Rattle.frontend.specs.declared.Gso.{Gso}
+use Rattle.core.specs.Result.{is_err}
+use Rattle.answer.specs.Verdict.{Verdict}
 use Rattle.answer.specs.Report.{done_report, plain_summary}
 use Rattle.frontend.specs.declared.Posted.{Posted}
 use Rattle.frontend.specs.declared.Refusal.TheVariants.{BadPage, BadLength, NoSlots, BadPages, BadGso}
 use Rattle.frontend.specs.Pages.{all_fit, twice, pages_of, bad_pages}
-use Rattle.frontend.specs.Post.{gso_extras, bad_gso, flags_for, others, data_for, later_for, extras_for, packet_for, free_slots, slots_for, post_packet, post}
+use Rattle.frontend.specs.Post.{gso_extras, is_bad, bad_gso, flags_for, others, data_for, later_for, extras_for, packet_for, free_slots, slots_for, post_packet, post}
 use Rattle.frontend.specs.Stages.{PagesTested, WithPacket, Posts}
 use Rattle.receive.specs.Stages.{AllUsable}
 use Rattle.frontend.proofs.Shape.{packet_count, extras_count}
@@ -79,15 +81,18 @@ module _ (page : List ℕ) (size : length page ≡ 4096) (o : Option Gso) (g : �
     }
 
 -- the references that are used, the first of them apart
-pub used_cons : (refs : List ℕ) (count : ℕ) → 1 ≤ count → count ≤ length refs → take count refs ≡ get_or refs 0 0 ∷ drop 1 (take count refs)
-used_cons refs count h k = drop-cons (take count refs) 0 0 (omega (arith, length-take-le count refs k)) ∙ ap (◌∷ drop 1 (take count refs)) (get_or-take count refs 0 0 (omega arith))
+pub used_cons : (refs : List ℕ) → 1 ≤ length refs → refs ≡ get_or refs 0 0 ∷ drop 1 refs
+used_cons refs h = drop-cons refs 0 0 h
 
-pub used_count : (refs : List ℕ) (count : ℕ) → 1 ≤ count → count ≤ length refs → suc (length (drop 1 (take count refs))) ≡ count
-used_count refs count h k = omega (arith, length-drop 1 (take count refs), length-take-le count refs k)
+pub used_count : (refs : List ℕ) → 1 ≤ length refs → suc (length (drop 1 refs)) ≡ length refs
+used_count refs h = omega (arith, length-drop 1 refs)
 
-pub packet_slots : (n : ℕ) (o : Option Gso) (refs frame : List ℕ) (count : ℕ) → 1 ≤ count → count ≤ length refs → length (packet_for n o (take count refs) frame) ≡ count + gso_extras o
-packet_slots n o refs frame count h k =
-    rw (used_cons refs count h k) (packet_count n o (get_or refs 0 0) (drop 1 (take count refs)) frame ∙ ap (◌+ gso_extras o) (used_count refs count h k))
+-- those behind the first, as the code cuts them out
+pub used_rest : (refs : List ℕ) → take (length refs - 1) (drop 1 refs) ≡ drop 1 refs
+used_rest refs = take_all (length refs - 1) (drop 1 refs) (omega (arith, length-drop 1 refs))
+
+pub packet_slots : (n : ℕ) (o : Option Gso) (refs frame : List ℕ) → 1 ≤ length refs → length (packet_for n o refs frame) ≡ length refs + gso_extras o
+packet_slots n o refs frame h = ap (λ (x : List ℕ). length (packet_for n o x frame)) (used_cons refs h) ∙ packet_count n o (get_or refs 0 0) (drop 1 refs) frame ∙ ap (◌+ gso_extras o) (used_count refs h)
 
 -- ---- the call
 
@@ -118,6 +123,11 @@ sorted_facts table window refs k pages r s h =
     let (a, b) = or_none (ltb (length refs) k || not (all_fit table window (take k refs))) (twice (pages_of table (take k refs))) t in
     let (d, e) = or_none (ltb (length refs) k) (not (all_fit table window (take k refs))) a in
     (ltb-false (length refs) k d, rw (s.named h) (fit_usable table window (take k refs) (not-false _ e)))
+
+-- whether gso is bad, as the code asks it
+pub bad_is_err : (v : Verdict) → is_err v ≡ is_bad v
+bad_is_err (Ok u) = refl
+bad_is_err (Err f) = refl
 
 -- a frame of one page is one piece
 pub one_scattered : (window frame : List ℕ) (p : ℕ) → needed (length frame) ≡ 1 → with_page window p frame ≡ scatter window (take 1 (p ∷ [])) frame
@@ -162,7 +172,8 @@ module _ (table page window : List ℕ) (read : ℕ) (o : Option Gso) (refs fram
       posts_posted h window' page' n w p =
           let c = frame_counts (length frame) k framed count in
           let enough = (sorted_facts table window refs k pages r sorted good).0 in
-          let len : length (packet_for (req_prod page) o (take k refs) frame) ≡ k + e = packet_slots (req_prod page) o refs frame k c.some enough ∙ ap (k +◌) (sym extras) in
+          let used : length (take k refs) ≡ k = length-take-le k refs enough in
+          let len : length (packet_for (req_prod page) o (take k refs) frame) ≡ k + e = packet_slots (req_prod page) o (take k refs) frame (omega (arith, c.some, used)) ∙ (λ i. used i + sym extras i) in
           let told : n ≡ notify Requests page (req_prod page) (wadd (req_prod page) (k + e)) = p.notifies ∙ ap (λ (x : ℕ). notify Requests page (req_prod page) (wadd (req_prod page) x)) len in
           rw (eq-eqb (length page) 4096 size, framed, gso, bad_as ∙ good, ← free, slots_as, le-ltb f (k + e) h, ← count)
           (record { report = ap (done_report (plain_summary (k + e) 0)) told; page = p.written; window = w ∙ ap (λ (x : List ℕ). scatter window x frame) (sorted.named good) })

@@ -4,10 +4,10 @@ use mathlib.Core.List.{List, [], ◌∷◌}
 use mathlib.Core.Bool.{true, false}
 use Prim.Native.Nat.{ℕ, ◌+◌, ◌*◌, ◌≤◌, ◌<◌}
 use native.Mathlib.Omega.{arith}
-use lib.ListN.{length, take, get_or}
-use lib.Seq.{take-suc, length-take-le}
+use lib.ListN.{length, take}
+use lib.Seq.{length-take-le}
 use borrow.Author.Tests.{lt-ltb, le-ltb}
-use Rattle.std.specs.Prelude.{Some, None, Ok, Err}
+use Rattle.std.specs.Prelude.{Option, Some, None, Ok, Err, slice_get, option_to_list}
 use Rattle.core.specs.Result.{is_err}
 use Rattle.words.proofs.Word.{no_confusion}
 use Rattle.grant.specs.Lookup.{write_page}
@@ -35,27 +35,41 @@ module _ (table window refs : List ℕ) (count : ℕ) where
 
 -- ---- one reference
 
-module _ (table window refs : List ℕ) (some : 1 ≤ length refs) where
-  only : take 1 refs ≡ get_or refs 0 0 ∷ []
-  only = take-suc refs 0 0 (omega arith)
+one_first : (refs : List ℕ) (g : ℕ) → slice_get refs 0 ≡ Some g → (1 ≤ length refs) × (take 1 refs ≡ g ∷ [])
+one_first [] g h = no_confusion cc
+one_first (x ∷ l) g h = (omega arith, ap (λ (o : Option ℕ). option_to_list o) h)
 
-  pub one_unfit : None ≡ write_page table window (get_or refs 0 0) → PagesTested table window refs 1 [] true
+pub none_first : (refs : List ℕ) → slice_get refs 0 ≡ None → length refs < 1
+none_first [] h = omega arith
+none_first (x ∷ l) h = no_confusion cc
+
+module _ (table window refs : List ℕ) (g : ℕ) (first : slice_get refs 0 ≡ Some g) where
+  some : 1 ≤ length refs
+  some = (one_first refs g first).0
+
+  only : take 1 refs ≡ g ∷ []
+  only = (one_first refs g first).1
+
+  pub one_used : length (take 1 refs) ≡ 1
+  one_used = ap length only
+
+  pub one_unfit : None ≡ write_page table window g → PagesTested table window refs 1 [] true
   unfolding bad_pages
   one_unfit h = record {
-    answer = rw (le-ltb (length refs) 1 some, only, write_unfit table window (get_or refs 0 0) h) refl;
+    answer = rw (le-ltb (length refs) 1 some, only, write_unfit table window g h) refl;
     named = λ z. no_confusion cc;
   }
 
-  pub one_fit : (p : ℕ) → Some p ≡ write_page table window (get_or refs 0 0) → PagesTested table window refs 1 (p ∷ []) false
+  pub one_fit : (p : ℕ) → Some p ≡ write_page table window g → PagesTested table window refs 1 (p ∷ []) false
   unfolding bad_pages
   one_fit p h =
-      let (fit, page) = write_fit table window (get_or refs 0 0) p h in
+      let (fit, page) = write_fit table window g p h in
       record {
         answer = rw (le-ltb (length refs) 1 some, only, fit) refl;
         named = λ z. rw (only, page) refl;
       }
 
-  pub one_page : (p : ℕ) → Some p ≡ write_page table window (get_or refs 0 0) → 4096 * p + 4096 ≤ length window
+  pub one_page : (p : ℕ) → Some p ≡ write_page table window g → 4096 * p + 4096 ≤ length window
   one_page p h =
-      let (fit, page) = write_fit table window (get_or refs 0 0) p h in
-      rw page (fit_page table window (get_or refs 0 0) (receive_transmit table window (get_or refs 0 0) fit))
+      let (fit, page) = write_fit table window g p h in
+      rw page (fit_page table window g (receive_transmit table window g fit))

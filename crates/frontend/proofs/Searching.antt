@@ -77,13 +77,13 @@ module _ (table window l pages : List ℕ) where
   pub search_ends : (i : ℕ) → length l ≤ i → from_reference table window l pages i ≡ Ok tt
   search_ends i h = rw (drop_of_length-le l {i = i} h) refl
 
--- the one error that a lookup is told by
-abbrev error_of : Result ℕ Unusable → Unusable
-error_of (Ok n) = Unfit
-error_of (Err e) = e
+-- the error by which nothing found is told
+abbrev err_or : {T E : Type 0} → E → Result T E → E
+err_or d (Ok x) = d
+err_or d (Err e) = e
 
-pub told_unfit : (o : Option ℕ) (e : Unusable) → Err e ≡ ok_or o Unfit → o ≡ None → e ≡ Unfit
-told_unfit o e h n = ap error_of (h ∙ ap (λ (x : Option ℕ). ok_or x Unfit) n)
+pub told : {T E : Type 0} (o : Option T) (d e : E) → Err e ≡ ok_or o d → o ≡ None → e ≡ d
+told o d e h n = ap (err_or d) (h ∙ ap (λ x. ok_or x d) n)
 
 -- a search that ended promises nothing of the table
 pub searched_ended : (table window l pages : List ℕ) (e : Unusable) → search_from table window [] l ≡ Err e → Searched table window l pages (Err e)

@@ -74,38 +74,32 @@ pub others_ltb : (l : List ℕ) → others l ≡ ltb 0 (length l)
 others_ltb [] = refl
 others_ltb (g ∷ l) = sym (lt-ltb 0 (suc (length l)) (omega arith))
 
-module _ (refs frame : List ℕ) (count : ℕ) (enough : count ≤ length refs) (first : ℕ) where
-  abbrev l : List ℕ
-  l = take count refs
-
-  used : length l ≡ count
-  used = length-take-le count refs enough
-
-  -- what is left of the loop from reference i on
+module _ (l frame : List ℕ) (first : ℕ) where
+  -- what is left of the loop from the later reference i on
   abbrev pub left_later : List ℕ → ℕ → List ℕ
-  left_later ring i = with_slots 12 256 ring (first + (i - 1)) (later_for (first + (i - 1)) (drop i l) (drop (4096 * i) frame))
+  left_later ring i = with_slots 12 256 ring (first + i) (later_for (first + i) (drop i l) (drop (4096 * (i + 1)) frame))
 
-  pub later_next : (ring next : List ℕ) (i n fl m : ℕ) → 1 ≤ i → i < count → n ≡ wadd first (i - 1) → fl ≡ flags_for (ltb (i + 1) count) false → m ≡ min 4096 (length frame - 4096 * i)
-      → next ≡ splice ring (slot_place 12 256 n) (data_for n (get_or refs i 0) fl m) → left_later ring i ≡ left_later next (i + 1)
+  pub later_next : (ring next : List ℕ) (i n fl m : ℕ) → i < length l → n ≡ wadd first i → fl ≡ flags_for (ltb (i + 1) (length l)) false → m ≡ min 4096 (length frame - 4096 * (i + 1))
+      → next ≡ splice ring (slot_place 12 256 n) (data_for n (get_or l i 0) fl m) → left_later ring i ≡ left_later next (i + 1)
   unfolding wadd
-  later_next ring next i n fl m some h a f s q =
-      let k = first + (i - 1) in
-      let z : first + (i + 1 - 1) ≡ suc k = omega arith in
-      let w : 4096 * i + 4096 ≡ 4096 * (i + 1) = omega arith in
-      let g : get_or l i 0 ≡ get_or refs i 0 = get_or-take count refs i 0 h in
-      let o : others (drop (i + 1) l) ≡ ltb (i + 1) count = others_ltb (drop (i + 1) l) ∙ ap (ltb 0) (length-drop (i + 1) l ∙ ap (◌- (i + 1)) used ∙ ap (count -◌) (add-one i)) ∙ follows i count in
-      let size : length (take 4096 (drop (4096 * i) frame)) ≡ m = length-take 4096 (drop (4096 * i) frame) ∙ ap (min 4096) (length-drop (4096 * i) frame) ∙ sym s in
-      let rest : drop 4096 (drop (4096 * i) frame) ≡ drop (4096 * (i + 1)) frame = drop-drop 4096 (4096 * i) frame ∙ ap (λ (x : ℕ). drop x frame) w in
-      let slot : data_for k (get_or l i 0) (flags_for (others (drop (i + 1) l)) false) (length (take 4096 (drop (4096 * i) frame))) ≡ data_for n (get_or refs i 0) fl m
-      = rw (g, o, ← f, size, a) (sym (data_mod (k % wrap) k (get_or refs i 0) fl m (lap_id k))) in
-      let place : slot_place 12 256 k ≡ slot_place 12 256 n = sym (place_ahead 12 256 refl ring first n (i - 1) a) in
-      let cut : drop i l ≡ get_or l i 0 ∷ drop (i + 1) l = drop-cons l i 0 (omega (arith, used)) ∙ ap (λ (x : ℕ). get_or l i 0 ∷ drop x l) (sym (add-one i)) in
-      ap (λ (x : List ℕ). with_slots 12 256 ring k (later_for k x (drop (4096 * i) frame))) cut
+  later_next ring next i n fl m h a f s q =
+      let k = first + i in
+      let at = 4096 * (i + 1) in
+      let z : first + (i + 1) ≡ suc k = omega arith in
+      let w : at + 4096 ≡ 4096 * (i + 1 + 1) = omega arith in
+      let o : others (drop (i + 1) l) ≡ ltb (i + 1) (length l) = others_ltb (drop (i + 1) l) ∙ ap (ltb 0) (length-drop (i + 1) l ∙ ap (length l -◌) (add-one i)) ∙ follows i (length l) in
+      let size : length (take 4096 (drop at frame)) ≡ m = length-take 4096 (drop at frame) ∙ ap (min 4096) (length-drop at frame) ∙ sym s in
+      let rest : drop 4096 (drop at frame) ≡ drop (4096 * (i + 1 + 1)) frame = drop-drop 4096 at frame ∙ ap (λ (x : ℕ). drop x frame) w in
+      let slot : data_for k (get_or l i 0) (flags_for (others (drop (i + 1) l)) false) (length (take 4096 (drop at frame))) ≡ data_for n (get_or l i 0) fl m
+      = rw (o, ← f, size, a) (sym (data_mod (k % wrap) k (get_or l i 0) fl m (lap_id k))) in
+      let place : slot_place 12 256 k ≡ slot_place 12 256 n = sym (place_ahead 12 256 refl ring first n i a) in
+      let cut : drop i l ≡ get_or l i 0 ∷ drop (i + 1) l = drop-cons l i 0 h ∙ ap (λ (x : ℕ). get_or l i 0 ∷ drop x l) (sym (add-one i)) in
+      ap (λ (x : List ℕ). with_slots 12 256 ring k (later_for k x (drop at frame))) cut
       ∙ (λ j. with_slots 12 256 (splice ring (place j) (slot j)) (suc k) (later_for (suc k) (drop (i + 1) l) (rest j)))
-      ∙ (λ j. with_slots 12 256 (sym q j) (sym z j) (later_for (sym z j) (drop (i + 1) l) (drop (4096 * (i + 1)) frame)))
+      ∙ (λ j. with_slots 12 256 (sym q j) (sym z j) (later_for (sym z j) (drop (i + 1) l) (drop (4096 * (i + 1 + 1)) frame)))
 
-  pub later_last : (ring : List ℕ) (i : ℕ) → count ≤ i → left_later ring i ≡ ring
-  later_last ring i h = rw (drop_of_length-le l {i = i} (omega (arith, used))) refl
+  pub later_last : (ring : List ℕ) (i : ℕ) → length l ≤ i → left_later ring i ≡ ring
+  later_last ring i h = rw (drop_of_length-le l {i = i} h) refl
 
-  pub later_first : (ring : List ℕ) → with_slots 12 256 ring first (later_for first (drop 1 l) (drop 4096 frame)) ≡ left_later ring 1
-  later_first ring = let z : first + (1 - 1) ≡ first = add-zero first in rw z refl
+  pub later_first : (ring : List ℕ) → with_slots 12 256 ring first (later_for first l (drop 4096 frame)) ≡ left_later ring 0
+  later_first ring = rw (add-zero first) refl

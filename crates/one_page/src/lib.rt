@@ -33,6 +33,6 @@ pub fn post_one(
         return Err(Refusal::NoSlots);
     }
     grant::write(window, page, frame);
-    let notify = posting::put_packet(ring, gso, references, 1, frame);
+    let notify = posting::put_packet(ring, gso, &references[..1], frame);
     Ok(Posted { slots, notify })
 }

@@ -10,6 +10,7 @@ use frontend::{Gso, Posted, Refusal};
 use ring::Page;
 
 // Whether cause 6 would refuse it.
+#[tactic(auto, using(frontend::proofs::Calls::bad_is_err), unfolding(frontend::specs::Post::bad_gso))]
 fn bad_gso(gso: Option<Gso>) -> bool
     ensures { result ≡ bad_gso gso }
 {
@@ -45,8 +46,9 @@ fn post_pages(
     if posting::free(ring, read) < slots {
         return Err(Refusal::NoSlots);
     }
-    pieces::scatter(window, &pages[..count as usize], frame);
-    let notify = posting::put_packet(ring, gso, references, count, frame);
+    let used = count as usize;
+    pieces::scatter(window, &pages[..used], frame);
+    let notify = posting::put_packet(ring, gso, &references[..used], frame);
     Ok(Posted { slots, notify })
 }
 
@@ -64,9 +66,9 @@ pub fn post(
         (post grants.now ring.old window.old read gso references.now frame.now)
         result ring.new window.new }
 {
-    let Some(ring) = ring.as_mut_array::<{ ring::PAGE_SIZE }>() else {
-        return Err(Refusal::BadPage);
-    };
+    let ring = ring
+        .as_mut_array::<{ ring::PAGE_SIZE }>()
+        .ok_or(Refusal::BadPage)?;
     if lengths::bad_length(frame.len()) {
         return Err(Refusal::BadLength);
     }

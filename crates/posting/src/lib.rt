@@ -1,7 +1,7 @@
 // The slots of a packet, as they are written to the ring.
 #![tactic(auto)]
 
-ghost use Rattle.std.specs.Prelude.{◌≡◌, ◌+◌, ◌*◌, ◌≤◌, length, take, drop};
+ghost use Rattle.std.specs.Prelude.{◌≡◌, ◌+◌, ◌*◌, ◌≤◌, ◌<◌, length, drop};
 ghost use Rattle.ring.specs.Ring.{with_slots};
 ghost use Rattle.netif.specs.Slot.{slot_width, slot_count};
 ghost use Rattle.frontend.specs.Post.{gso_extras, later_for, extras_for, free_slots};
@@ -12,37 +12,23 @@ use netif::DataSlot;
 use ring::{Page, RingSlot, Side};
 
 // The slots that are free, by the driver's count of replies read.
+#[tactic(auto, unfolding(frontend::specs::Post::free_slots))]
 pub fn free(ring: &Page, read: u32) -> u32
     ensures { result ≡ free_slots ring.now read }
 {
-    let used = ring::posted(ring, read);
-    if DataSlot::COUNT < used {
-        0
-    } else {
-        DataSlot::COUNT - used
-    }
+    DataSlot::COUNT.saturating_sub(ring::posted(ring, read))
 }
 
 // Writes the data slots behind the first, from a counter on: one for each further piece of the frame.
-fn put_later(ring: &mut Page, first: u32, references: &[u32], count: u32, frame: &[u8])
-    requires { (1 ≤ count)
-        × (count ≤ 16)
-        × (count ≤ length references.now)
-        × (4096 * count ≤ length frame.now + 4095) }
-    ensures { ring.new ≡ with_slots slot_width slot_count ring.old first
-        (later_for first (drop 1 (take count references.now)) (drop 4096 frame.now)) }
+fn put_later(ring: &mut Page, first: u32, later: &[u32], frame: &[u8])
+    requires { (length later.now ≤ 15) × (4096 * length later.now < length frame.now) }
+    ensures { ring.new ≡ with_slots slot_width slot_count ring.old first (later_for first later.now (drop 4096 frame.now)) }
 {
-    let mut i: u32 = 1;
-    while i < count {
-        let size = lengths::piece_of(frame.len(), i as usize) as u16;
-        encoding::put_data(
-            ring,
-            ring::ahead(first, i - 1),
-            references[i as usize],
-            encoding::flags(i + 1 < count, false),
-            size,
-        );
-        i += 1;
+    for (i, reference) in later.iter().enumerate() {
+        let n = ring::ahead(first, i as u32);
+        let flags = encoding::flags(i + 1 < later.len(), false);
+        let size = lengths::piece_of(frame.len(), i + 1) as u16;
+        encoding::put_data(ring, n, *reference, flags, size);
     }
 }
 
@@ -56,25 +42,21 @@ fn put_extras(ring: &mut Page, n: u32, gso: Option<Gso>)
 }
 
 // Writes the packet at req_prod and moves req_prod behind it; whether to notify the backend.
-pub fn put_packet(ring: &mut Page, gso: Option<Gso>, references: &[u32], count: u32, frame: &[u8]) -> bool
-    requires { (1 ≤ count)
-        × (count ≤ 16)
-        × (count ≤ length references.now)
+#[tactic(auto, using(frontend::proofs::Shape::few_extras))]
+pub fn put_packet(ring: &mut Page, gso: Option<Gso>, references: &[u32], frame: &[u8]) -> bool
+    requires { (1 ≤ length references.now)
+        × (length references.now ≤ 16)
         × (length frame.now ≤ 65535)
-        × (4096 * count ≤ length frame.now + 4095) }
-    ensures { WithPacket ring.old gso (take count references.now) frame.now ring.new result }
+        × (4096 * length references.now ≤ length frame.now + 4095) }
+    ensures { WithPacket ring.old gso references.now frame.now ring.new result }
 {
     let old = ring::requests(ring);
+    let count = references.len() as u32;
     let extras = extras_of(gso);
-    encoding::put_data(
-        ring,
-        old,
-        references[0],
-        encoding::flags(1 < count, 0 < extras),
-        frame.len() as u16,
-    );
+    let flags = encoding::flags(1 < count, 0 < extras);
+    encoding::put_data(ring, old, references[0], flags, frame.len() as u16);
     put_extras(ring, ring::ahead(old, 1), gso);
-    put_later(ring, ring::ahead(old, 1 + extras), references, count, frame);
+    put_later(ring, ring::ahead(old, 1 + extras), &references[1..], frame);
     let new = ring::ahead(old, count + extras);
     ring::publish(ring, Side::Requests, old, new)
 }

@@ -20,7 +20,7 @@ pub fn search_pages(
     let mut found = Ok(());
     'search: for i in 0..references.len() {
         let page = grant::fit_to_write(grants, window, references[i]).ok_or(Unusable::Unfit)?;
-        'compare: for j in 0..i {
+        for j in 0..i {
             if pages[j] == page {
                 found = Err(Unusable::Same(j as u32, i as u32));
                 break 'search;

@@ -1,31 +1,10 @@
 -- `put_extra` meets its contract: three stores, one behind the other (`extra_stored`).
-use borrow.Author.Rules.{rules}
-use Prim.Native.Nat.{◌+◌, ◌≤◌}
-use native.Mathlib.Omega.{arith}
-use Rattle.ring.proofs.Ring.{place_fits}
+use Rattle.std.proofs.Common.{arith}
 use Rattle.frontend.proofs.Stored.{extra_stored}
 use Rattle.encoding.proofs.put_extra.Goals as goal
-use Rattle.encoding.proofs.put_extra.Goals.{After-place-at}
-
-module _ (p : After-place-at) where
-  fits : p.place-at.result + 12 ≤ 4096
-  fits = omega (arith, p.place-at.ensures, place_fits 12 256 p.args.n 4096 (omega arith) (omega arith))
-
-pub put_pair-requires : goal.put_pair-requires
-put_pair-requires c = omega (arith, fits (goal.at.put_pair-requires c).After-place-at)
-
-pub overflow_add-at : goal.overflow_add-at
-overflow_add-at c = omega (arith, fits (goal.at.overflow_add-at c).After-place-at)
-
-pub put_u32-requires : goal.put_u32-requires
-put_u32-requires c = omega (arith, fits (goal.at.put_u32-requires c).After-place-at)
-
-pub overflow_add-at-2 : goal.overflow_add-at-2
-overflow_add-at-2 c = omega (arith, fits (goal.at.overflow_add-at-2 c).After-place-at)
-
-pub put_u32-requires-2 : goal.put_u32-requires-2
-put_u32-requires-2 c = omega (arith, fits (goal.at.put_u32-requires-2 c).After-place-at)
 
 pub returns : goal.returns
 returns c = let a = c.args in
-    extra_stored a.ring.now _ _ _ a.n c.place-at.result c.requires c.place-at.ensures a.size a.kind (search rules) c.put_pair.ensures c.put_u32.ensures c.put_u32-2.ensures
+    let first = rw c.from.ensures at c.put_pair.ensures in
+    let second = rw c.from-2.ensures at c.put_u32.ensures in
+    extra_stored a.ring.now _ _ _ a.n c.place-at.result c.told-ring c.place-at.ensures a.size a.kind (omega (arith, c.ranges.kind)) first second c.put_u32-2.ensures

@@ -1,6 +1,6 @@
 use Rattle.std.proofs.Common.{◌≡◌, refl, sym, ap, ◌∙◌, arith, ◌≤◌, ◌<◌, length, Some}
 use Rattle.std.proofs.lemmas.Result.{err_from_is_err_and}
-use Rattle.frontend.proofs.Searching.{search_unfit, search_enters, table_next, search_hits, search_misses, search_leaves, told_unfit, searched_ended}
+use Rattle.frontend.proofs.Searching.{search_unfit, search_enters, table_next, search_hits, search_misses, search_leaves, told, searched_ended}
 use Rattle.searching.proofs.search_pages.Goals as goal
 use Rattle.searching.proofs.search_pages.Goals.{In_ok-page}
 use Rattle.grant.specs.Lookup.{write_page}
@@ -15,41 +15,41 @@ returns-in_err-page c = let a = c.args in
     let v = c.search in
     let p = err_from_is_err_and c.from_residual.result c.from_residual.ensures.1 in
     let q = c.in_err-page.ensures in
-    rw (p.1, p.2, told_unfit _ _ q.value q.ok_part) (searched_ended a.grants.now a.window.now a.references.now v.pages _
+    rw (p.1, p.2, told _ _ _ q.value q.ok_part) (searched_ended a.grants.now a.window.now a.references.now v.pages _
     (v.invariant.left
     ∙ search_unfit a.grants.now a.window.now a.references.now v.pages v.i c.search-test.true (sym q.ok_part ∙ c.fit_to_write.ensures)))
 
-pub compare-init : goal.compare-init
-compare-init c = let a = c.args in
+pub loop-j-init : goal.loop-j-init
+loop-j-init c = let a = c.args in
     let v = c.search in record {
       none_found = v.invariant.none_found;
-      left = v.invariant.left ∙ search_enters a.grants.now a.window.now a.references.now v.pages v.i c.search-test.true _ (fit (goal.at.compare-init c).In_ok-page) (omega (arith, v.invariant.sized, c.search-test.true, c.requires));
+      left = v.invariant.left ∙ search_enters a.grants.now a.window.now a.references.now v.pages v.i c.search-test.true _ (fit (goal.at.loop-j-init c).In_ok-page) (omega (arith, v.invariant.sized, c.search-test.true, c.requires));
     }
 
-pub compare-preserved : goal.compare-preserved
-compare-preserved c = let a = c.args in
+pub loop-j-preserved : goal.loop-j-preserved
+loop-j-preserved c = let a = c.args in
     let v = c.search in
-    let w = c.compare in record {
+    let w = c.loop-j in record {
       none_found = w.invariant.none_found;
-      left = w.invariant.left ∙ search_misses a.grants.now a.window.now a.references.now v.pages _ v.i w.j (omega (arith, v.invariant.sized, c.search-test.true, c.requires)) c.compare-test.true c.if-pages-j.false;
+      left = w.invariant.left ∙ search_misses a.grants.now a.window.now a.references.now v.pages _ v.i w.j (omega (arith, v.invariant.sized, c.search-test.true, c.requires)) c.loop-j-test.true c.if-pages-j.false;
     }
 
 pub search-preserved : goal.search-preserved
 search-preserved c = let a = c.args in
     let v = c.search in
-    let w = c.compare in
+    let w = c.loop-j in
     let x = c.in_ok-page.page in
     let t = c.search-test.true in
     let some : v.i < length v.pages = omega (arith, t, v.invariant.sized, c.requires) in record {
       sized = length-set v.pages v.i x ∙ v.invariant.sized;
       none_found = w.invariant.none_found;
       named = table_next a.grants.now a.window.now a.references.now v.pages v.i t x (fit (goal.at.search-preserved c).In_ok-page) some v.invariant.named;
-      left = w.invariant.left ∙ search_leaves a.grants.now a.window.now a.references.now v.pages x v.i w.j some c.compare-test.false;
+      left = w.invariant.left ∙ search_leaves a.grants.now a.window.now a.references.now v.pages x v.i w.j some c.loop-j-test.false;
     }
 
 pub returns-then-pages-j : goal.returns-then-pages-j
 returns-then-pages-j c = let a = c.args in
     let v = c.search in
-    let w = c.compare in
+    let w = c.loop-j in
     searched_ended a.grants.now a.window.now a.references.now v.pages _
-    (w.invariant.left ∙ search_hits a.grants.now a.window.now a.references.now v.pages _ v.i w.j (omega (arith, v.invariant.sized, c.search-test.true, c.requires)) c.compare-test.true c.if-pages-j.true)
+    (w.invariant.left ∙ search_hits a.grants.now a.window.now a.references.now v.pages _ v.i w.j (omega (arith, v.invariant.sized, c.search-test.true, c.requires)) c.loop-j-test.true c.if-pages-j.true)

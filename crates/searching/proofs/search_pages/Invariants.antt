@@ -6,8 +6,8 @@ use Rattle.frontend.specs.Search.{search_from}
 use Rattle.frontend.proofs.Searching.{from_reference, from_page}
 use Rattle.searching.proofs.search_pages.Given as goal
 
-abbrev pub invariant-compare : goal.invariant-compare
-invariant-compare l = record {
+abbrev pub invariant-loop-j : goal.invariant-loop-j
+invariant-loop-j l = record {
   none_found : l.found ≡ Ok tt;
   left : search_from l.grants l.window [] l.references ≡ from_page l.grants l.window l.references l.pages l.page l.i l.j;
 }
