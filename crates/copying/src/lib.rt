@@ -4,7 +4,8 @@
 ghost use Rattle.std.specs.Prelude.{◌≡◌, ◌+◌, ◌*◌, ◌/◌, ◌≤◌, ◌<◌, length, take};
 ghost use Rattle.words.specs.Word.{splice};
 
-// Copies the first bytes of src to the front of dst in passes of eight; the number of passes made.
+// Copies the first bytes of src to the front of dst in passes of eight; the number of passes made. It is no one `copy_from_slice`,
+// since `copy` promises how many passes there are.
 fn copy_passes(src: &[u8], dst: &mut [u8], passes: usize) -> usize
     requires { (8 * passes ≤ length src.now) × (8 * passes ≤ length dst.old) }
     ensures { (dst.new ≡ splice dst.old 0 (take (8 * passes) src.now)) × (result ≡ passes) }

@@ -83,7 +83,7 @@ impl DataSlot {
     }
 }
 
-// An extra of the transmit ring.
+// An extra of the transmit ring. Its type is a number, since a guest may write any byte there and `extra_of` keeps it.
 #[derive(Clone, Copy)]
 pub struct Extra {
     pub kind: u8,

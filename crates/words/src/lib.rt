@@ -23,7 +23,7 @@ pub fn put_bytes(b: &mut [u8], at: usize, bytes: &[u8])
     b[at..at + bytes.len()].copy_from_slice(bytes);
 }
 
-// The 16-bit number at a position.
+// The 16-bit number at a position. Each width has functions of its own, one call long: a trait over the two would repeat their bodies.
 #[tactic(auto, unfolding(crate::specs::Word::u16_at))]
 pub fn u16_at(b: &[u8], at: usize) -> u16
     requires { at + 2 ≤ length b.now }
