@@ -8,6 +8,8 @@ ghost use Rattle.replay.specs.Calls.{takes, most_calls, length_of, stored, Trans
 use lines::output::Output;
 use lines::{checksum, line};
 use netif::DataSlot;
+use ring::{Page, RingSlot};
+use runs::counter;
 use std::io::Write;
 
 // A ring holds so many slots, and each call but the last takes one or more.
@@ -16,30 +18,22 @@ const MOST_CALLS: u32 = DataSlot::COUNT + 1;
 // The lengths of the frames that receive calls deliver, in turn.
 const LENGTHS: [usize; 9] = [14, 60, 1514, 4095, 4096, 4097, 8192, 9000, 65535];
 
-const RSP_PROD: usize = 8;
-
-// The counter at which a stored ring was left: all slots consumed have their replies.
-fn counter(page: &[u8; 4096]) -> u32
-    ensures { result ≡ rsp_prod page.now }
-{
-    words::u32_at(page, RSP_PROD)
-}
-
 // Whether a call with this answer took something: done or spoiled.
 fn took(answer: u32) -> bool
     ensures { result ≡ takes answer }
 {
-    answer == 0 || answer == 7
+    matches!(answer, 0 | 7)
 }
 
-// A take, finished at once where it is done, and its line; whether it took something.
+// A take, finished at once where it is done, and its line; whether it took something. The counters are lent one by one, as the C
+// interface has them.
 fn transmit_call<W: Write>(
     out: &mut Output<W>,
     name: &[u8],
     consumed: &mut u32,
     replied: &mut u32,
     halted: &mut u32,
-    page: &mut [u8],
+    page: &mut Page,
     grants: &[u8],
     window: &[u8],
 ) -> bool
@@ -73,7 +67,7 @@ fn transmit_call<W: Write>(
 pub fn transmit<W: Write>(
     out: &mut Output<W>,
     name: &[u8],
-    page: &mut [u8; 4096],
+    page: &mut Page,
     grants: &[u8],
     window: &[u8],
 )
@@ -81,10 +75,9 @@ pub fn transmit<W: Write>(
 {
     let mut consumed = counter(page);
     let mut replied = consumed;
-    let mut halted: u32 = 0;
-    let mut calls: u32 = 0;
-    while calls < MOST_CALLS
-        && transmit_call(
+    let mut halted = 0;
+    for call in 0..MOST_CALLS {
+        if !transmit_call(
             out,
             name,
             &mut consumed,
@@ -93,9 +86,9 @@ pub fn transmit<W: Write>(
             page,
             grants,
             window,
-        )
-    {
-        calls += 1;
+        ) {
+            return;
+        }
     }
 }
 
@@ -110,10 +103,8 @@ fn frame_length(call: u32) -> usize
 pub fn fill(bytes: &mut [u8], start: u32)
     ensures { Counted start (length bytes.old) bytes.new }
 {
-    let mut i: usize = 0;
-    while i < bytes.len() {
-        bytes[i] = ((i % 251 + start as usize) % 251) as u8;
-        i += 1;
+    for (i, byte) in bytes.iter_mut().enumerate() {
+        *byte = ((i % 251 + start as usize) % 251) as u8;
     }
 }
 
@@ -133,7 +124,7 @@ fn receive_call<W: Write>(
     call: u32,
     consumed: &mut u32,
     halted: &mut u32,
-    page: &mut [u8],
+    page: &mut Page,
     grants: &[u8],
     window: &mut [u8],
 ) -> bool
@@ -166,7 +157,7 @@ fn receive_call<W: Write>(
 pub fn receive<W: Write>(
     out: &mut Output<W>,
     name: &[u8],
-    page: &mut [u8; 4096],
+    page: &mut Page,
     grants: &[u8],
     window: &mut [u8],
 )
@@ -174,20 +165,19 @@ pub fn receive<W: Write>(
         page.old window.old }
 {
     let mut consumed = counter(page);
-    let mut halted: u32 = 0;
-    let mut calls: u32 = 0;
-    while calls < MOST_CALLS
-        && receive_call(
+    let mut halted = 0;
+    for call in 0..MOST_CALLS {
+        if !receive_call(
             out,
             name,
-            calls,
+            call,
             &mut consumed,
             &mut halted,
             page,
             grants,
             window,
-        )
-    {
-        calls += 1;
+        ) {
+            return;
+        }
     }
 }

@@ -6,6 +6,7 @@ ghost use Rattle.netif.specs.Slot.{slot_width, slot_count};
 use crate::calls;
 use lines::output::Output;
 use netif::DataSlot;
+use ring::Page;
 use std::io::Write;
 
 const REQ_PROD: usize = 0;
@@ -24,8 +25,8 @@ const GRANT_WORD: usize = 8;
 const RANGE_LENGTH: usize = 6;
 
 // A page without slots: so many are posted from a counter on, and each side asks for an event at the next.
-fn ring_page(consumed: u32, posted: u32) -> [u8; 4096] {
-    let mut page = [0u8; 4096];
+fn ring_page(consumed: u32, posted: u32) -> Page {
+    let mut page = [0u8; ring::PAGE_SIZE];
     let next = ring::ahead(consumed, 1);
     words::put_u32(&mut page, REQ_PROD, ring::ahead(consumed, posted));
     words::put_u32(&mut page, REQ_EVENT, next);
@@ -38,42 +39,40 @@ fn ring_page(consumed: u32, posted: u32) -> [u8; 4096] {
 fn slot_place(n: u32) -> usize
     ensures { result + slot_width ≤ page_size }
 {
-    ring::place(DataSlot::WIDTH, DataSlot::COUNT, n)
+    ring::place::<DataSlot>(n)
+}
+
+// What differs in an example's data slots: their flags, and where their bytes stand in a page.
+#[derive(Clone, Copy)]
+struct Piece {
+    offset: u16,
+    flags: u16,
+    size: u16,
 }
 
 // Data slot k of an example whose slots start at a counter.
-fn put_data(page: &mut [u8; 4096], first: u32, k: u16, offset: u16, flags: u16, size: u16)
+fn put_data(page: &mut Page, first: u32, k: u16, piece: Piece)
     requires { k < slot_count }
 {
     let at = slot_place(ring::ahead(first, k as u32));
     words::put_u32(page, at, k as u32 % PAGES);
-    words::put_u16(page, at + 4, offset);
-    words::put_u16(page, at + 6, flags);
+    words::put_u16(page, at + 4, piece.offset);
+    words::put_u16(page, at + 6, piece.flags);
     words::put_u16(page, at + 8, 1000 + k);
-    words::put_u16(page, at + 10, size);
+    words::put_u16(page, at + 10, piece.size);
 }
 
 // Data slots of an example from one number up to another, all alike.
-fn put_alike(
-    page: &mut [u8; 4096],
-    first: u32,
-    from: u16,
-    to: u16,
-    offset: u16,
-    flags: u16,
-    size: u16,
-)
+fn put_alike(page: &mut Page, first: u32, from: u16, to: u16, piece: Piece)
     requires { (from ≤ to) × (to ≤ slot_count) }
 {
-    let mut k = from;
-    while k < to {
-        put_data(page, first, k, offset, flags, size);
-        k += 1;
+    for k in from..to {
+        put_data(page, first, k, piece);
     }
 }
 
 // An extra of a type, in slot 1: gso size 1460, gso type 1.
-fn put_extra(page: &mut [u8; 4096], kind: u8) {
+fn put_extra(page: &mut Page, kind: u8) {
     let at = slot_place(1);
     page[at] = kind;
     words::put_u16(page, at + 2, 1460);
@@ -85,12 +84,10 @@ fn grant_table() -> [u8; 144]
     ensures { 144 ≡ length result }
 {
     let mut grants = [0u8; 144];
-    let mut g: u32 = 0;
-    while g < PAGES {
+    for g in 0..PAGES {
         let at = GRANT_WORD * (g as usize);
         words::put_u32(&mut grants, at, 4 * g + 3);
         words::put_u16(&mut grants, at + RANGE_LENGTH, 4096);
-        g += 1;
     }
     grants
 }
@@ -105,7 +102,7 @@ fn granted_pages() -> [u8; 73728]
 }
 
 // The calls on a page.
-fn run<W: Write>(out: &mut Output<W>, name: &[u8], page: &mut [u8; 4096]) {
+fn run<W: Write>(out: &mut Output<W>, name: &[u8], page: &mut Page) {
     let grants = grant_table();
     let window = granted_pages();
     calls::transmit(out, name, page, &grants, &window);
@@ -115,39 +112,122 @@ fn run<W: Write>(out: &mut Output<W>, name: &[u8], page: &mut [u8; 4096]) {
 fn singles<W: Write>(out: &mut Output<W>, name: &[u8], posted: u32) {
     let first: u32 = 4294967290;
     let mut page = ring_page(first, posted);
-    put_alike(&mut page, first, 0, 256, 100, 0, 60);
+    put_alike(
+        &mut page,
+        first,
+        0,
+        256,
+        Piece {
+            offset: 100,
+            flags: 0,
+            size: 60,
+        },
+    );
     run(out, name, &mut page);
 }
 
 // Eighteen data slots, the last with these flags.
 fn eighteen<W: Write>(out: &mut Output<W>, name: &[u8], flags: u16) {
     let mut page = ring_page(250, 18);
-    put_data(&mut page, 250, 0, 0, 4, 1760);
-    put_alike(&mut page, 250, 1, 17, 0, 4, 100);
-    put_data(&mut page, 250, 17, 0, flags, 100);
+    put_data(
+        &mut page,
+        250,
+        0,
+        Piece {
+            offset: 0,
+            flags: 4,
+            size: 1760,
+        },
+    );
+    put_alike(
+        &mut page,
+        250,
+        1,
+        17,
+        Piece {
+            offset: 0,
+            flags: 4,
+            size: 100,
+        },
+    );
+    put_data(
+        &mut page,
+        250,
+        17,
+        Piece {
+            offset: 0,
+            flags,
+            size: 100,
+        },
+    );
     run(out, name, &mut page);
 }
 
 // Three data slots, of 5000, 1000 and 500 bytes.
 fn three<W: Write>(out: &mut Output<W>, name: &[u8]) {
     let mut page = ring_page(0, 3);
-    put_data(&mut page, 0, 0, 596, 4, 5000);
-    put_data(&mut page, 0, 1, 0, 4, 1000);
-    put_data(&mut page, 0, 2, 0, 0, 500);
+    put_data(
+        &mut page,
+        0,
+        0,
+        Piece {
+            offset: 596,
+            flags: 4,
+            size: 5000,
+        },
+    );
+    put_data(
+        &mut page,
+        0,
+        1,
+        Piece {
+            offset: 0,
+            flags: 4,
+            size: 1000,
+        },
+    );
+    put_data(
+        &mut page,
+        0,
+        2,
+        Piece {
+            offset: 0,
+            flags: 0,
+            size: 500,
+        },
+    );
     run(out, name, &mut page);
 }
 
 // A data slot of 14 bytes.
 fn one<W: Write>(out: &mut Output<W>, name: &[u8]) {
     let mut page = ring_page(0, 1);
-    put_data(&mut page, 0, 0, 0, 0, 14);
+    put_data(
+        &mut page,
+        0,
+        0,
+        Piece {
+            offset: 0,
+            flags: 0,
+            size: 14,
+        },
+    );
     run(out, name, &mut page);
 }
 
 // A data slot and an extra of a type.
 fn extra<W: Write>(out: &mut Output<W>, name: &[u8], kind: u8) {
     let mut page = ring_page(0, 2);
-    put_data(&mut page, 0, 0, 0, 8, 60);
+    put_data(
+        &mut page,
+        0,
+        0,
+        Piece {
+            offset: 0,
+            flags: 8,
+            size: 60,
+        },
+    );
     put_extra(&mut page, kind);
     run(out, name, &mut page);
 }

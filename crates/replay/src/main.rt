@@ -14,18 +14,15 @@ use std::rt::{Env, Files};
 
 // The calls on the ring in the folder that an argument names.
 fn replay<R: Env + Files, W: Write>(rt: &R, out: &mut Output<W>, i: usize) {
-    let mut name = [0u8; 64];
-    let n = arg(rt, i, &mut name);
-    stored::replay(rt, out, &name[..n]);
+    let mut room = [0u8; 64];
+    let name = arg(rt, i, &mut room);
+    stored::replay(rt, out, name);
 }
 
 fn main(rt: HostRuntime) -> io::Result<()> {
     let mut out = Output::new(io::writer(&rt));
-    let count = arg_count(&rt);
-    let mut i: usize = 1;
-    while i < count {
+    for i in 1..arg_count(&rt) {
         replay(&rt, &mut out, i);
-        i += 1;
     }
     examples::replay(&mut out);
     out.finish()

@@ -1,5 +1,5 @@
 // The stored ring pages of real guests: a folder for each, with a ring page, a grant table and a window.
-ghost use Rattle.std.specs.Prelude.{◌≡◌, ◌≤◌, length};
+ghost use Rattle.std.specs.Prelude.{◌≡◌, length};
 ghost use Rattle.lines.specs.Counts.{IsPrefixLen};
 
 use crate::calls;
@@ -10,28 +10,23 @@ use std::io::Write;
 use std::rt::Files;
 use std::str;
 
-// Puts a path at the front of a buffer: a folder's name and a file's, end to end. Its length, which is 0 where there is no room.
-fn path_of(folder: &[u8], file: &[u8], path: &mut [u8]) -> usize
-    requires { length path.old ≤ 4096 }
-    ensures { IsPrefixLen result path.new }
-{
-    let a = folder.len();
-    let n = a + file.len();
-    if path.len() < n {
-        return 0;
+// The path of a folder's file, put together in a buffer; nothing where there is no room for it or it is not UTF-8.
+fn path_of<'a>(folder: &[u8], file: &[u8], room: &'a mut [u8]) -> Option<&'a str> {
+    let n = folder.len() + file.len();
+    if room.len() < n {
+        return None;
     }
-    copying::copy(folder, path);
-    copying::copy(file, &mut path[a..]);
-    n
+    words::put_bytes(room, 0, folder);
+    words::put_bytes(room, folder.len(), file);
+    str::from_utf8(&room[..n]).ok()
 }
 
 // Reads a folder's file to the front of a buffer; the number of bytes, which is 0 where there is no such file.
 fn load<R: Files>(rt: &R, folder: &[u8], file: &[u8], buffer: &mut [u8]) -> usize
     ensures { IsPrefixLen result buffer.new }
 {
-    let mut path = [0u8; 64];
-    let n = path_of(folder, file, &mut path);
-    let Ok(path) = str::from_utf8(&path[..n]) else {
+    let mut room = [0u8; 64];
+    let Some(path) = path_of(folder, file, &mut room) else {
         return 0;
     };
     let Ok(mut file) = File::open(rt, path) else {
@@ -48,7 +43,7 @@ fn run<R: Files, W: Write>(
     grants: &[u8],
     window: &mut [u8],
 ) {
-    let mut page = [0u8; 4096];
+    let mut page = [0u8; ring::PAGE_SIZE];
     if load(rt, folder, b"/tx-ring.bin", &mut page) != 0 {
         calls::transmit(out, folder, &mut page, grants, window);
     } else {

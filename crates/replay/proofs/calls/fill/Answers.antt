@@ -1,4 +1,4 @@
--- `replay::calls::fill` meets its contract. The invariant: the bytes passed count up, and the length stays.
+-- `replay::calls::fill` meets its contract. Each byte written counts on, and those before it stay.
 use mathlib.Core.Path.{◌∙◌}
 use mathlib.Core.List.{List}
 use Prim.Native.Nat.{ℕ, ◌+◌, ◌%◌, ◌<◌}
@@ -24,10 +24,10 @@ counted-more start i l h all =
     (get_or-set_same l i v 0 h ∙ omega arith)
 
 pub loop-i-init : goal.loop-i-init
-loop-i-init c = (search rules, search rules, counted_none _ _)
+loop-i-init c = counted_none _ _
 
 pub loop-i-preserved : goal.loop-i-preserved
-loop-i-preserved c = (simp length-set (omega arith), simp length-set (omega arith), counted-more c.args.start c.loop-i.i c.loop-i.bytes (omega arith) c.loop-i.invariant.2)
+loop-i-preserved c = counted-more c.args.start c.loop-i.i c.loop-i.bytes (omega arith) c.loop-i.invariant
 
 pub returns : goal.returns
-returns c = counted_fewer c.args.start c.loop-i.i (length c.args.bytes.now) c.loop-i.bytes (omega arith) c.loop-i.invariant.2
+returns c = counted_fewer c.args.start c.loop-i.i (length c.args.bytes.now) c.loop-i.bytes (omega arith) c.loop-i.invariant
