@@ -79,8 +79,7 @@ pub fn finish(
         return Err(Refusal::BadPage);
     };
     let mut index = Index::new();
-    let tally = inspecting::inspect(list, consumed, replied, &mut index).ok_or(
-        Refusal::BadRecords,
-    )?;
+    let found = inspecting::inspect(list, consumed, replied, &mut index);
+    let tally = found.ok_or(Refusal::BadRecords)?;
     finish_held(list, &index, tally.slots, replied, ring, ticket, status)
 }
