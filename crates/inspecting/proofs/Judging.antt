@@ -2,7 +2,7 @@
 -- After the pass, in which all records fit and stand in the index (`Passing`), the sum of slots and the walk along the index tell whether the
 -- records cover the slots (`test_covers`).
 use Rattle.std.proofs.Common.{◌≡◌, ℕ, zero, suc, ◌+◌, ◌*◌, ◌/◌, ◌<◌, ◌≤◌, Bool, true, false, cond, ◌&&◌, eqb, ltb, ◌≢◌, ◌⊎◌, List, [], ◌∷◌, Option, Some, None, length, get_or, set, replicate, sym, refl, ap, ◌∙◌, subst, inl, inr, ⊎_elim, arith, length-set, get_or-set_other, get_or-set_same, le-ltb, lt-ltb, eq-eqb, ne_eqb, eqb-true, le-leb}
-use Rattle.core.specs.Option.{unwrap_or}
+use Rattle.std.specs.Option.{unwrap_or}
 use lib.ListN.{get_or-replicate, get_or-eq_default}
 use borrow.Author.Tests.{not-false}
 use Rattle.words.proofs.Word.{same_or_not, lt_or_ge, and_both, true_and, either, clash}

@@ -1,6 +1,6 @@
 -- One record of the pass, and a confirmation: the ways out.
 use Rattle.std.proofs.Common.{◌≡◌, ℕ, ◌+◌, ◌*◌, ◌&&◌, true, false, List, Option, Some, None, get_or, set, refl, eq-eqb, ne_eqb}
-use Rattle.core.specs.Option.{option_or}
+use Rattle.std.specs.Option.{option_or}
 use Rattle.ring.specs.Ring.{wsub}
 use Rattle.held.specs.declared.Held.{Held}
 use Rattle.fitting.specs.Fits.{fits_at}

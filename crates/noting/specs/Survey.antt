@@ -1,7 +1,7 @@
 -- The code's way to an inspection, in linear time: a pass over the records that enters each held one in the index and adds up their slots, and a
 -- walk along the index. `proofs/Judging.antt` has it that both succeed exactly if the list is valid.
 use Rattle.std.specs.Prelude.{ℕ, Option, None, Some, zero, suc, ◌+◌, ◌*◌, ◌/◌, Bool, true, false, cond, ◌&&◌, List, [], ◌∷◌, ◌==◌, nat_le, nat_lt, slice_index, slice_set}
-use Rattle.core.specs.Option.{option_or}
+use Rattle.std.specs.Option.{option_or}
 use Rattle.ring.specs.Ring.{wsub}
 use Rattle.netif.specs.Slot.{slot_count}
 use Rattle.held.specs.declared.Held.{Held}

@@ -1,7 +1,7 @@
 -- A ticket by the index: the place that the index has at its offset is that of its record, or it is not held.
 use Rattle.std.proofs.Common.{◌≡◌, ℕ, ◌%◌, ◌<◌, ◌≤◌, Bool, true, false, not, eqb, ◌≢◌, List, Option, Some, None, length, get_or, set, sym, refl, ap, ◌∙◌, subst, ⊎_elim, arith, eq-eqb, ne_eqb, le-leb}
 use borrow.Author.Tests.{lt-leb}
-use Rattle.core.specs.Option.{unwrap_or}
+use Rattle.std.specs.Option.{unwrap_or}
 use Rattle.words.proofs.Word.{lt_or_ge}
 use Rattle.ring.specs.Ring.{wrap, wadd, wsub}
 use Rattle.ring.proofs.Counters.{on_counter}

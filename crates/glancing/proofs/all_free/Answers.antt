@@ -1,5 +1,5 @@
 -- The chain's answer is that of the definition.
-use Rattle.std.proofs.Common.{not, refl, ◌∙◌, rules, tests}
+use Rattle.std.proofs.Common.{not, ◌∙◌, rules, tests}
 use Rattle.std.proofs.lemmas.Iterator.{YieldsList-from_slice}
 use Rattle.std.proofs.lemmas.Iterator.Search.{all_from_yields_List}
 use Rattle.held.specs.declared.Held.{Held}
