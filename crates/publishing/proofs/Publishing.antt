@@ -5,6 +5,7 @@ use mathlib.Core.List.{List, [], ◌∷◌}
 use Prim.Native.Nat.{ℕ, suc, ◌+◌, ◌-◌, ◌*◌, ◌≤◌, ◌<◌}
 use native.Mathlib.Omega.{arith}
 use lib.ListN.{length, length-take}
+use Rattle.std.specs.Prelude.{Option}
 use Rattle.words.specs.Word.{Bytes}
 use Rattle.ring.specs.Ring.{wsub, req_prod, posted, with_posted}
 use Rattle.ring.proofs.Counters.{wsub_on, posted_left}
@@ -39,7 +40,7 @@ held_posted table window c s takes z =
 
 -- ---- the publication
 
-module _ (s : State) (size : length s.page ≡ 4096) (o : Gso) (frame : List ℕ) (g : ℕ) (l : List ℕ) (few : length l ≤ 15) (bytes : Bytes s.page) (typed : type_given o < 256)
+module _ (s : State) (size : length s.page ≡ 4096) (o : Option Gso) (frame : List ℕ) (g : ℕ) (l : List ℕ) (few : length l ≤ 15) (bytes : Bytes s.page) (typed : type_given o < 256)
     (held : HeldPosted s) (fits : FitsRing (req_prod s.page) s.replied (length (packet_for (req_prod s.page) o (g ∷ l) frame))) where
   abbrev r : ℕ
   r = req_prod s.page
@@ -66,7 +67,7 @@ module _ (s : State) (size : length s.page ≡ 4096) (o : Gso) (frame : List ℕ
         packet = packet_for_lem r o g l frame (omega arith);
       }
 
-module _ (s : State) (size : length s.page ≡ 4096) (o : Gso) (frame : List ℕ) (long : 14 ≤ length frame) (small : length frame < 65536) (bytes : Bytes s.page) (typed : type_given o < 256)
+module _ (s : State) (size : length s.page ≡ 4096) (o : Option Gso) (frame : List ℕ) (long : 14 ≤ length frame) (small : length frame < 65536) (bytes : Bytes s.page) (typed : type_given o < 256)
     (held : HeldPosted s) (read : ℕ) (past : NotPast s.page read s.replied) (free : slots_for o (length frame) ≤ free_slots s.page read) where
   all : (u : List ℕ) → length u ≡ needed (length frame) → Publishes s (with_posted 12 256 s.page (packet_for (req_prod s.page) o u frame)) (packet_for (req_prod s.page) o u frame)
   all [] count = let x : length frame ≤ 4096 * needed (length frame) = needed_reach (length frame) in absurd (omega arith)
