@@ -5,10 +5,10 @@ use mathlib.Core.Bool.{Bool, true, false, not, ◌||◌}
 use Prim.Native.Nat.{ℕ, suc, ◌+◌, ◌-◌, ◌*◌, ◌≤◌, ◌<◌}
 use native.Mathlib.Omega.{arith}
 use lib.ListN.{length, take, drop, get_or, length-drop}
-use lib.Seq.{drop-cons, get_or-take, length-take-le, take_all}
+use lib.Seq.{drop-cons, length-take-le, take_all}
 use lib.Dec.{ltb, eqb}
 use borrow.Author.Tests.{eq-eqb, lt-ltb, le-ltb, ltb-false, not-false}
-use Rattle.std.specs.Prelude.{Option, Ok, Err}
+use Rattle.std.specs.Prelude.{Option, Ok, Err, is_err}
 use Rattle.words.specs.Word.{splice}
 use Rattle.words.proofs.Word.{or_none}
 use Rattle.ring.specs.Ring.{wadd, req_prod, notify, ProducerMoved, slot_place, with_slots, with_producer, with_posted}
@@ -21,10 +21,8 @@ use Rattle.grant.specs.Grant.{with_page}
 use Rattle.receive.specs.Put.{bad_length, needed, scatter}
 use Rattle.receive.proofs.Calls.{one_piece}
 use Rattle.frontend.specs.declared.Gso.{Gso}
-use Rattle.core.specs.Result.{is_err}
 use Rattle.answer.specs.Verdict.{Verdict}
 use Rattle.answer.specs.Report.{done_report, plain_summary}
-use Rattle.frontend.specs.declared.Posted.{Posted}
 use Rattle.frontend.specs.declared.Refusal.TheVariants.{BadPage, BadLength, NoSlots, BadPages, BadGso}
 use Rattle.frontend.specs.Pages.{all_fit, twice, pages_of, bad_pages}
 use Rattle.frontend.specs.Post.{gso_extras, is_bad, bad_gso, flags_for, others, data_for, later_for, extras_for, packet_for, free_slots, slots_for, post_packet, post}

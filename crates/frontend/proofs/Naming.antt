@@ -7,8 +7,7 @@ use native.Mathlib.Omega.{arith}
 use lib.ListN.{length, take}
 use lib.Seq.{length-take-le}
 use borrow.Author.Tests.{lt-ltb, le-ltb}
-use Rattle.std.specs.Prelude.{Option, Some, None, Ok, Err, slice_get, option_to_list}
-use Rattle.core.specs.Result.{is_err}
+use Rattle.std.specs.Prelude.{Option, Some, None, Ok, Err, slice_get, option_to_list, is_err}
 use Rattle.words.proofs.Word.{no_confusion}
 use Rattle.grant.specs.Lookup.{write_page}
 use Rattle.grant.proofs.Grant.{fit_page, receive_transmit, write_fit, write_unfit}

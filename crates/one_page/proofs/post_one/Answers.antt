@@ -1,7 +1,7 @@
 -- `post_one` meets its contract: the one page, or that there is none, is what is found of the list; each way out is then one law of `Calls`.
 use Rattle.std.proofs.Common.{arith, ◌≡◌, ◌+◌, ◌*◌, ◌≤◌, refl, sym, ap, ◌∙◌, [], ◌∷◌, false, length, Some, slice_get}
 use Rattle.std.proofs.lemmas.Result.{err_from_is_err_and}
-use Rattle.core.specs.Option.{option_copied}
+use Rattle.std.specs.Prelude.{option_copied}
 use Rattle.receive.proofs.Calls.{one_piece}
 use Rattle.grant.specs.Lookup.{write_page}
 use Rattle.frontend.specs.Stages.{PagesTested}

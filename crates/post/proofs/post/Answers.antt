@@ -3,7 +3,7 @@ use Rattle.std.proofs.Common.{◌≡◌, sym, ◌∙◌}
 use Rattle.std.proofs.lemmas.Option.{MatchOption-at_some, MatchOption-at_none}
 use Rattle.std.proofs.lemmas.Result.{err_from_is_err_and}
 use borrow.Author.Tests.{eq-eqb, ne_eqb}
-use Rattle.core.specs.Array.{IsWholeChunk}
+use Rattle.std.specs.Array.{IsWholeChunk}
 use Rattle.frontend.proofs.Searching.{told}
 use Rattle.frontend.proofs.Calls.{frame_small, posts_bad_page, posts_bad_length, posts_bad_gso}
 use Rattle.post.proofs.post.Goals as goal
