@@ -1,4 +1,4 @@
-use Rattle.std.proofs.Common.{◌≡◌, refl, sym, ap, ◌∙◌, arith, ◌≤◌, ◌<◌, length, Some}
+use Rattle.std.proofs.Common.{◌≡◌, sym, ◌∙◌, arith, ◌<◌, length, Some}
 use Rattle.std.proofs.lemmas.Result.{err_from_is_err_and}
 use Rattle.frontend.proofs.Searching.{search_unfit, search_enters, table_next, search_hits, search_misses, search_leaves, told, searched_ended}
 use Rattle.searching.proofs.search_pages.Goals as goal
