@@ -1,7 +1,7 @@
 // What a call answers, what it leaves of a queue, and how it ends.
 #![tactic(auto)]
 
-ghost use Rattle.std.specs.Prelude.{◌≡◌, List, ℕ, length};
+ghost use Rattle.std.specs.Prelude.{◌≡◌, List, ℕ};
 ghost use Rattle.ring.specs.Ring.{wadd, asking, ProducerMoved};
 ghost use Rattle.ring.specs.declared.Side.TheVariants.{Replies};
 ghost use Rattle.answer.specs.Report.{halt, go_on, spoiled_report, done_report};
