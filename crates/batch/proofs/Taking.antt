@@ -17,8 +17,8 @@ use Rattle.ring.specs.Ring.{posted}
 use Rattle.ring.proofs.Ring.{slots_length}
 use Rattle.netif.specs.Slot.{Slot}
 use Rattle.grammar.specs.Divide.{Cut, whole, beginning, misshapen, divide, on_cut}
-use Rattle.answer.specs.declared.Verdict.{Verdict}
-use Rattle.answer.specs.declared.Verdict.TheVariants.{Good, Bad}
+use Rattle.std.specs.Prelude.{Ok, Err}
+use Rattle.answer.specs.Verdict.{Verdict, good}
 use Rattle.packet.specs.Judge.{judge, total_of, frame_of}
 use Rattle.packet.proofs.Judge.{frame_length}
 use Rattle.held.specs.declared.Held.{Held}
@@ -67,7 +67,7 @@ module _ (table window : List ℕ) (q : Queue) (page frame : List ℕ) (l : List
   -- what holds of every ending answer, of a good packet handed over with room for its frame, and of a spoiled one; a packet is taken only where the
   -- list of records is valid, and has at most the ring's slots
   module _ (P : TakeEffect → Type 0) (refused : (n : ℕ) → Ends n → P (refusal n q page frame l))
-      (handed : (e : ℕ) (p : List Slot) → valid q.consumed q.replied l ≡ true → length p ≤ 256 → judge table window e p ≡ Good → total_of p ≤ length frame
+      (handed : (e : ℕ) (p : List Slot) → valid q.consumed q.replied l ≡ true → length p ≤ 256 → judge table window e p ≡ good → total_of p ≤ length frame
       → P (handed_over table window q page frame l e p))
       (spoilt : (e : ℕ) (p : List Slot) (cause place : ℕ) → valid q.consumed q.replied l ≡ true → length p ≤ 256 → P (spoiled q page frame l e p cause place)) where
     by_test : (b : Bool) (x y : TakeEffect) → P x → (b ≡ false → P y) → P (cond b x y)
@@ -76,8 +76,8 @@ module _ (table window : List ℕ) (q : Queue) (page frame : List ℕ) (l : List
 
     packet_case : valid q.consumed q.replied l ≡ true → (e : ℕ) (p : List Slot) → length p ≤ 256 → (v : Verdict) → judge table window e p ≡ v
         → P (take_packet table window q page frame l e p v)
-    packet_case h e p few (Bad cause place) j = by_test (full l) _ _ (refused 14 (inr (inr (inl refl)))) (λ f. spoilt e p cause place h few)
-    packet_case h e p few Good j =
+    packet_case h e p few (Err fault) j = by_test (full l) _ _ (refused 14 (inr (inr (inl refl)))) (λ f. spoilt e p fault.cause fault.place h few)
+    packet_case h e p few (Ok u) j =
         by_test (ltb (length frame) (total_of p)) _ _ (refused 8 (inr (inl refl)))
         (λ r. by_test (full l) _ _ (refused 14 (inr (inr (inl refl)))) (λ f. handed e p h few j (ltb-false (length frame) (total_of p) r)))
 
@@ -135,7 +135,7 @@ module _ (table window : List ℕ) (q : Queue) (page frame : List ℕ) (l : List
     pub long : length e.frame ≡ length frame
     pub stays : drop e.report.total e.frame ≡ drop e.report.total frame
 
-  handed_writes : (e : ℕ) (p : List Slot) → judge table window e p ≡ Good → total_of p ≤ length frame → Writes (handed_over table window q page frame l e p)
+  handed_writes : (e : ℕ) (p : List Slot) → judge table window e p ≡ good → total_of p ≤ length frame → Writes (handed_over table window q page frame l e p)
   unfolding handed_over summary_of splice
   handed_writes e p j r =
       let f = frame_of table window e p in

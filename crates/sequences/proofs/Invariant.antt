@@ -22,8 +22,8 @@ use Rattle.grammar.specs.Divide.{Cut, whole, beginning, misshapen, divide, on_cu
 use Rattle.grammar.specs.Service.{◌▹◌}
 use Rattle.grammar.proofs.Grammar.{packet_length, packet_some, divide_whole}
 use Rattle.grammar.proofs.Service.{Reads, Case, reads_fresh, reads_publish, reads_again, reads_empty, reads_waiting, reads_wrong, reads_took}
-use Rattle.answer.specs.declared.Verdict.{Verdict}
-use Rattle.answer.specs.declared.Verdict.TheVariants.{Good, Bad}
+use Rattle.std.specs.Prelude.{Ok, Err}
+use Rattle.answer.specs.Verdict.{Verdict, good}
 use Rattle.answer.specs.Words.{report_words}
 use Rattle.packet.specs.Judge.{judge, total_of}
 use Rattle.packet.proofs.Judge.{total_small}
@@ -120,7 +120,7 @@ module _ (table window : List ℕ) where
 
   -- the frame buffer holds a good packet that stands ready; one of 65,535 bytes does
   Suits : {c : ℕ} {s : State} {takes : List Take} {es : List Entry} → Inv c s takes es → List ℕ → Type 0
-  Suits v frame = (p t : List Slot) (k : Packet p) → v.left ≡ p ++ t → judge table window (length k.extras) p ≡ Good → total_of p ≤ length frame
+  Suits v frame = (p t : List Slot) (k : Packet p) → v.left ≡ p ++ t → judge table window (length k.extras) p ≡ good → total_of p ≤ length frame
 
   big_suits : {c : ℕ} {s : State} {takes : List Take} {es : List Entry} (v : Inv c s takes es) (frame : List ℕ) → 65535 ≤ length frame → Suits v frame
   unfolding Suits
@@ -248,7 +248,7 @@ module _ (table window : List ℕ) where
     step_packet : (queue_at s).halted ≡ false → (p t : List Slot) (k : Packet p) → v.left ≡ p ++ t → full s.list ≡ false → (j : Verdict) → judge table window (length k.extras) p ≡ j
         → TakeLeaves (take_packet table window (queue_at s) s.page frame s.list (length k.extras) p j) s.mark l → Step
     unfolding Step Gone handed_over spoiled a between Suits summary_of is_finished
-    step_packet h p t k e f Good jh o =
+    step_packet h p t k e f (Ok u) jh o =
         let fits = le-ltb (length frame) (total_of p) (suits p t k e jh) in
         let o' : TakeLeaves (handed_over table window (queue_at s) s.page frame s.list (length k.extras) p) s.mark l = rw (fits, f) at o in
         let w : Took table window s.consumed (take_lent s frame l) p = Took.handed k (running (queue_at s) h) jh o' in
@@ -259,10 +259,10 @@ module _ (table window : List ℕ) where
               (accounts_more s.consumed s.replied s.list v.accounts v.right f small_consumed p pending (few_more p t e) x refl (record { packet = k; slots = refl; extras = refl; fate = (refl, refl) })),
           nothing_gone 0 (λ z. omega arith) o'.returns,
         )
-    step_packet h p t k e f (Bad n i) jh o =
-        let o' : TakeLeaves (spoiled (queue_at s) s.page frame s.list (length k.extras) p n i) s.mark l = rw f at o in
-        let w : Took table window s.consumed (take_lent s frame l) p = Took.spoilt k n i (running (queue_at s) h) jh o' in
-        let took : took_packet s l ≡ p = packet_is p t e (slots_word_lem (spoiled (queue_at s) s.page frame s.list (length k.extras) p n i) s.mark l o') in
+    step_packet h p t k e f (Err fault) jh o =
+        let o' : TakeLeaves (spoiled (queue_at s) s.page frame s.list (length k.extras) p fault.cause fault.place) s.mark l = rw f at o in
+        let w : Took table window s.consumed (take_lent s frame l) p = Took.spoilt k fault.cause fault.place (running (queue_at s) h) jh o' in
+        let took : took_packet s l ≡ p = packet_is p t e (slots_word_lem (spoiled (queue_at s) s.page frame s.list (length k.extras) p fault.cause fault.place) s.mark l o') in
         let x : Held = ended s.consumed (length p) (length k.extras) failed in
         let cov = more_covers s.consumed s.replied s.list v.right f (length p) (length k.extras) (few_more p t e) (packet_counts k) x refl refl in
         let snd = more_sound s.consumed s.replied s.list v.right f (length p) (length k.extras) (few_more p t e) (packet_counts k) x refl refl refl in

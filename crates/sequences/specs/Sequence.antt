@@ -136,7 +136,7 @@ module _ (table window : List ℕ) where
   pub data Took (c : ℕ) (a : Take) (p : List Slot) : Type 0 where
     handed : (k : Packet p) → lent_queue a ≡ go_on c a.replied → judge table window (length k.extras) p ≡ good
         → LeftAs a (handed_over table window (go_on c a.replied) a.page a.frame a.list (length k.extras) p) → Took c a p
-    spoilt : (k : Packet p) (cause place : ℕ) → lent_queue a ≡ go_on c a.replied → judge table window (length k.extras) p ≡ Bad cause place
+    spoilt : (k : Packet p) (cause place : ℕ) → lent_queue a ≡ go_on c a.replied → judge table window (length k.extras) p ≡ bad cause place
         → LeftAs a (spoiled (go_on c a.replied) a.page a.frame a.list (length k.extras) p cause place) → Took c a p
 
 -- demand 3
