@@ -33,6 +33,7 @@ fn cut(page: &Page, slots: usize, cuts: &mut [usize; 256]) -> Cuts
     requires { (slots ≤ slot_count) × (length cuts.old ≡ slot_count) }
     ensures { CutAs (transmit_slots page.now 0 slots) cuts.old cuts.new result }
 {
+    // Counted by hand: a step goes on by a packet's length.
     let mut at = 0;
     let mut count = 0;
     while at < slots {

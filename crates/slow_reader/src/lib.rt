@@ -75,6 +75,7 @@ fn cut(run: &[u8], slots: usize, cuts: &mut [usize; 256]) -> Cuts
     requires { (slot_width * slots ≤ length run.now) × (slots ≤ slot_count) × (length cuts.old ≡ slot_count) }
     ensures { CutAs (slots_in run.now 0 slots) cuts.old cuts.new result }
 {
+    // Counted by hand: a step goes on by a packet's length.
     let mut at = 0;
     let mut count = 0;
     while at < slots {
