@@ -45,6 +45,7 @@ fn take_front(
 }
 
 // Whether more than 256 slots are posted and not replied to, or fewer than are held.
+#[tactic(auto, unfolding(transmit::specs::Take::overflow, ring::specs::Ring::posted, ring::specs::Ring::wsub, held::specs::Valid::between))]
 fn overflows(consumed: u32, replied: u32, ring: &Page) -> bool
     ensures { result ≡ overflow consumed replied ring.now }
 {
