@@ -1,5 +1,5 @@
 -- Each way out is one law of `Answers`.
-use Rattle.std.proofs.Common.{◌≡◌, false, true, is_some, sym, ap, ◌∙◌, length}
+use Rattle.std.proofs.Common.{◌≡◌, is_some, sym, ap, ◌∙◌, length}
 use Rattle.std.proofs.lemmas.Result.{err_from_is_err_and}
 use Rattle.finishing.specs.declared.Refusal.TheVariants.{BadRecords}
 use Rattle.finishing.proofs.Answers.{refusal_is, finish_page, finish_records, finish_valid}

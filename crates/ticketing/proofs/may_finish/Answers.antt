@@ -1,5 +1,5 @@
 -- The two tests are the clause's.
-use Rattle.std.proofs.Common.{sym, ◌∙◌, refl}
+use Rattle.std.proofs.Common.{refl}
 use Rattle.fitting.proofs.Fits.{not_finished}
 use Rattle.ticketing.proofs.may_finish.Goals as goal
 
