@@ -1,3 +1,4 @@
+-- `search_pages` meets its contract: each turn is one law of `Searching`, and so is each way out.
 use Rattle.std.proofs.Common.{◌≡◌, sym, ◌∙◌, arith, ◌<◌, length, Some}
 use Rattle.std.proofs.lemmas.Result.{err_from_is_err_and}
 use Rattle.frontend.proofs.Searching.{search_unfit, search_enters, table_next, search_hits, search_misses, search_leaves, told, searched_ended}
