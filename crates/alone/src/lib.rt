@@ -1,4 +1,4 @@
-// A packet of one slot, as most are: settled with no loop and no table.
+// A packet of one slot, as most are: settled with no loop and no table. It promises what `settling` does, and is a path of its own for speed.
 #![tactic(auto)]
 
 ghost use Rattle.std.specs.Prelude.{◌≡◌, List, ℕ, ◌+◌, ◌*◌, ◌≤◌, length, is_some, Some};

@@ -27,7 +27,7 @@ pub struct Summary {
     pub gso_type: u8,
 }
 
-// What a call answers.
+// What a call answers. This is document 01's list and not a Result: a spoiled frame consumes its requests as a done one does.
 #[derive(Clone, Copy, PartialEq, Eq, Debug)]
 pub enum Answer {
     Done {

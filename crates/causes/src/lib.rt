@@ -45,7 +45,8 @@ pub fn judge_gso(extras: u32, gso_size: u16, gso_type: u8) -> Result<(), Fault>
     })
 }
 
-// Where the part of a data slot lies, or its cause 4 or 5, at its place of the packet.
+// Where the part of a data slot lies, or its cause 4 or 5, at its place of the packet. The three cases stand side by side, which is
+// plainer than a conversion of the error that takes the place along.
 pub fn judge_slot(
     grants: &[u8],
     window: &[u8],

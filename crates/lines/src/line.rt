@@ -9,7 +9,7 @@ pub fn begin<W: Write>(out: &mut Output<W>, name: &[u8], ring: &[u8], consumed: 
     write!(out, " consumed {consumed}");
 }
 
-// The name of an answer, which a report has as a number.
+// The name of an answer, which a report has as a number, as the C interface has it.
 fn answer_name(answer: u32) -> &'static str {
     match answer {
         0 => "done",

@@ -9,6 +9,9 @@ ghost use Rattle.netif.specs.Decode.{data_of, extra_of, request_of};
 
 use ring::RingSlot;
 
+// The status error of a reply, as 16-bit two's complement.
+pub const ERROR: u16 = 65535;
+
 // A data slot of the transmit ring.
 #[derive(Clone, Copy)]
 pub struct DataSlot {

@@ -1,4 +1,4 @@
-// A frame of one page, posted with no loop and no table.
+// A frame of one page, posted with no loop and no table. It promises what `post` does of more pages, and is a path of its own for speed.
 #![tactic(auto)]
 
 ghost use Rattle.std.specs.Prelude.{◌≡◌, false, length};

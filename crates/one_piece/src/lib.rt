@@ -1,4 +1,5 @@
-// The one request that a frame of one piece needs: judged, and then refused, or given the frame and replied to, with no loop and no table.
+// The one request that a frame of one piece needs: judged, and then refused, or given the frame and replied to, with no loop
+// and no table. It promises what `delivering` does, and is a path of its own for speed.
 #![tactic(auto)]
 
 ghost use Rattle.std.specs.Prelude.{◌≡◌, ◌+◌, ◌*◌, ◌≤◌, [], ◌∷◌, length};

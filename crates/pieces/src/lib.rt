@@ -9,7 +9,7 @@ ghost use Rattle.receive.specs.Put.{piece_size, reply_flags, scatter, piece_repl
 ghost use Rattle.receive.specs.Stages.{AllUsable};
 
 use lengths::PIECE;
-use netif::Request;
+use netif::{ERROR, Request};
 use ring::Page;
 
 // The pieces of the longest frame.
@@ -18,9 +18,8 @@ pub const MOST: usize = 16;
 // Where a reply has its flags and its status.
 const FLAGS: usize = 4;
 
+// The flag of a reply that another follows.
 const MORE: u16 = 4;
-
-const ERROR: u16 = 65535;
 
 // Writes the pieces of a frame to pages, in order. All but the last are whole pages: of these the compiler knows the length.
 pub fn scatter(window: &mut [u8], pages: &[u32], frame: &[u8])
@@ -74,7 +73,7 @@ pub fn reply_pieces(ring: &mut Page, first: u32, count: u32, frame: &[u8])
     }
 }
 
-// Replies to requests of which one is unfit.
+// Replies to requests of which one is unfit. The loop is that of `reply_pieces` too; what it does differs in all but the counter.
 pub fn reply_errors(ring: &mut Page, first: u32, count: u32)
     requires { count ≤ 16 }
     ensures { ring.new ≡ with_slots request_width request_count ring.old first

@@ -22,7 +22,7 @@ pub fn count_of(answer: Result<Cuts, Refused>) -> usize
     answer.map_or(0, |cuts| cuts.count)
 }
 
-// At how many of the first n places two tables are the same.
+// At how many of the first n places two tables are the same. Place by place: for a count over a zip the proof did not close.
 fn agreed(n: usize, a: &[usize; 256], b: &[usize; 256]) -> usize
     requires { n ≤ slot_count }
     ensures { result ≡ agreeing n a.now b.now }

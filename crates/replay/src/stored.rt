@@ -21,7 +21,7 @@ fn path_of<'a>(folder: &[u8], file: &[u8], room: &'a mut [u8]) -> Option<&'a str
     str::from_utf8(&room[..n]).ok()
 }
 
-// Reads a folder's file to the front of a buffer; the number of bytes, which is 0 where there is no such file.
+// Reads a folder's file to the front of a buffer; the number of bytes. No such file is as an empty one: 0.
 fn load<R: Files>(rt: &R, folder: &[u8], file: &[u8], buffer: &mut [u8]) -> usize
     ensures { IsPrefixLen result buffer.new }
 {

@@ -45,7 +45,7 @@ pub const BAD_TICKET: u32 = 15;
 
 pub const BAD_RECORDS: u32 = 17;
 
-// The queue that two words say.
+// The queue that two words say, as C lends them.
 pub fn queue_of(consumed: u32, mark: u32) -> Queue
     ensures { result ≡ queue_of consumed mark }
 {

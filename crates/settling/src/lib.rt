@@ -13,10 +13,9 @@ ghost use Rattle.transmit.specs.Stages.{Lent, Gives, RepliedNow, take_whole};
 
 use answer::{Fault, Summary};
 use grammar::{Outline, Part};
+use netif::ERROR;
 use ring::{Page, Side};
 use transmit::Answer;
-
-const ERROR: u16 = 65535;
 
 // The replies to a spoiled packet leave at once, and rsp_prod goes behind them, if no packet is held before it. Whether to notify.
 fn reply_now(first: u32, replied: u32, slots: u32, extras: u32, ring: &mut Page) -> bool

@@ -69,7 +69,7 @@ fn link<K: Behind>(run: &[u8], i: usize, j: usize, n: usize) -> bool
     K::announces(slot(run, i)) == Some(more)
 }
 
-// Whether count slots of the run are the first of n slots of a kind.
+// Whether count slots of the run are the first of n slots of a kind. Slot by slot: for `all` over the places the proof did not close.
 fn chain<K: Behind>(run: &[u8], from: usize, count: usize, n: usize) -> bool
     requires { (slot_width * (from + count) ≤ length run.now) × (count ≤ slot_count) }
     ensures { result ≡ begun K.right K.announces n 0 (slots_in run.now from count) }

@@ -12,7 +12,7 @@ use finishing::{Refusal, Sent};
 use reporting::Words;
 use transmit::{Answer, Queue};
 
-// The transmit queue that three words say.
+// The transmit queue that three words say, as C lends them.
 pub fn queue_of(consumed: u32, replied: u32, mark: u32) -> Queue
     ensures { result ≡ queue_of consumed replied mark }
 {
