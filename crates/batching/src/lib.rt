@@ -1,51 +1,36 @@
 // Many takes in one call, on a ring and its list of held packets. The list is looked over once.
 #![tactic(auto)]
 
-ghost use Rattle.std.specs.Prelude.{◌≡◌, true, ◌+◌, ◌≤◌, ◌<◌, length, drop};
-ghost use Rattle.held.specs.Records.{first_free};
+ghost use Rattle.std.specs.Prelude.{◌≡◌, Some, false, ◌≤◌, ◌<◌, length, not, position};
+ghost use Rattle.held.specs.declared.Held.{Held};
+ghost use Rattle.held.specs.Records.{in_use, full, vacancy};
 ghost use Rattle.batch.specs.Batch.{begun, batch};
-ghost use Rattle.batching.specs.Course.{KeptAt, Begins, InCourse, Steps, Batched};
+ghost use Rattle.batching.specs.Course.{KeptAt, Begins, InCourse, GoesOn, Steps, Batched};
 
-use concluding::Taken;
 use held::Held;
 use listing::Batch;
+use reporting::Words;
 use transmit::Queue;
 
-// The place of the first free record from a place on; behind the list if none is free.
-fn next_free(list: &[Held], from: usize) -> usize
-    ensures { result ≡ from + first_free (drop from list.now) }
+// The place of the first free record, if one is free.
+fn first_free(list: &[Held]) -> Option<usize>
+    ensures { result ≡ position (λ h. not (in_use h)) list.now }
 {
-    let mut i: usize = from;
-    while i < list.len() {
-        let h = records::record(list, i);
-        if h.slots == 0 {
-            return i;
-        }
-        i += 1;
-    }
-    i
+    list.iter().position(|h| h.is_free())
 }
 
 // Keeps the record of a take, if it takes one, in the first free one's place; the place of the first free record then.
-fn keep(list: &mut [Held], at: usize, taken: Taken) -> usize
-    requires { taken.takes ≡ true → at < length list.old }
-    ensures { KeptAt list.old at taken result list.new }
+fn keep(list: &mut [Held], free: Option<usize>, kept: Option<Held>) -> Option<usize>
+    requires { (h : Held) → kept ≡ Some h → (full list.old ≡ false) × (free ≡ vacancy list.old) }
+    ensures { KeptAt list.old kept result list.new }
 {
-    if taken.takes {
-        records::add(
-            list,
-            at,
-            taken.ticket,
-            taken.slots,
-            taken.extras,
-            taken.status,
-            taken.finished,
-        );
-        if taken.slots != 0 {
-            return next_free(list, at + 1);
-        }
-    }
-    at
+    let Some(held) = kept else {
+        return free;
+    };
+    let at = free?;
+    records::add(list, at, held);
+    let next = first_free(&list[at..])?;
+    Some(at + next)
 }
 
 // The numbers before the first take. Where none is to be made the list is not looked at.
@@ -53,31 +38,31 @@ fn begin(list: &[Held], queue: Queue, most: u32) -> Batch
     ensures { Begins queue most list.now result }
 {
     if most == 0 {
-        return listing::start(queue, noting::unread(true), 0, 0);
+        return Batch::new(queue, None);
     }
     let found = glancing::look_over(list, queue.consumed, queue.replied);
-    listing::start(queue, found, list.len(), most)
+    Batch::new(queue, found)
 }
 
-// One take more.
+// One take more; whether it takes a packet, so that another may follow.
 fn take_next(
     list: &mut [Held],
-    batch: Batch,
+    batch: &mut Batch,
     grants: &[u8],
     window: &[u8],
     ring: &mut [u8],
     frame: &mut [u8],
-    results: &mut [[u32; 11]],
-) -> Batch
-    requires { (1 ≤ batch.left) × InCourse batch list.old frame.old results.old }
-    ensures { InCourse result list.new frame.new results.new
-        × Steps grants.now window.now batch ring.old list.old frame.old results.old
-        result ring.new list.new frame.new results.new }
+    results: &mut [Words],
+) -> bool
+    requires { InCourse batch.old list.old frame.old × (batch.old.count < length results.old) × (batch.old.count < 256) }
+    ensures { GoesOn result batch.new list.new frame.new
+        × Steps grants.now window.now batch.old ring.old list.old frame.old results.old
+        result batch.new ring.new list.new frame.new results.new }
 {
-    let full = list.len() <= batch.free;
-    let taken = listing::take_listed(batch, full, grants, window, ring, frame, results);
-    let free = keep(list, batch.free, taken);
-    listing::advance(batch, taken, free)
+    let taken = batch.take_listed(grants, window, ring, frame, results);
+    let free = keep(list, batch.free, taken.record);
+    batch.advance(taken, free);
+    taken.record.is_some()
 }
 
 // Up to `most` takes one after another, each lent what is left of the frame buffer; the first that takes nothing is the last.
@@ -89,15 +74,17 @@ pub fn take_many(
     window: &[u8],
     ring: &mut [u8],
     frame: &mut [u8],
-    results: &mut [[u32; 11]],
+    results: &mut [Words],
 ) -> Batch
     requires { (most ≤ length results.old) × (most ≤ 256) }
     ensures { Batched (batch grants.now window.now most (begun queue ring.old frame.old list.old)) results.old
         result ring.new list.new frame.new results.new }
 {
     let mut batch = begin(list, queue, most);
-    while 0 < batch.left {
-        batch = take_next(list, batch, grants, window, ring, frame, results);
+    for _ in 0..most {
+        if !take_next(list, &mut batch, grants, window, ring, frame, results) {
+            break;
+        }
     }
     batch
 }

@@ -1,7 +1,8 @@
 -- A take of a batch: what it leaves of the whole frame buffer and of the list of results, and the numbers behind it.
-use Rattle.std.specs.Prelude.{List, ◌++◌, Bool, cond, ℕ, ◌+◌, ◌-◌, take, set}
+use Rattle.std.specs.Prelude.{List, Option, is_some, ◌++◌, ℕ, ◌+◌, take, set}
 use Rattle.answer.specs.Words.{report_words}
 use Rattle.noting.specs.declared.Tally.{Tally}
+use Rattle.noting.specs.Survey.{free_in}
 use Rattle.transmit.specs.declared.Queue.{Queue}
 use Rattle.transmit.specs.Take.{TakeEffect}
 use Rattle.transmit.specs.declared.Answer.{Answer}
@@ -9,13 +10,9 @@ use Rattle.transmit.specs.Stages.{report_of}
 use Rattle.concluding.specs.declared.Taken.{Taken}
 use Rattle.listing.specs.declared.Batch.{Batch}
 
--- the place of the first free record, behind the list if none is free
-abbrev pub place_found : Tally → (records : ℕ) → ℕ
-place_found s records = cond s.full records s.free
-
 -- the numbers before the first take
-abbrev pub started : Queue → Tally → (records most : ℕ) → Batch
-started q s records most = record { queue = q; good = s.good; free = place_found s records; filled = 0; count = 0; left = most }
+abbrev pub started : Queue → Option Tally → Batch
+started q found = record { queue = q; good = is_some found; free = free_in found; filled = 0; count = 0 }
 
 -- the effect e of a take that was lent the frame buffer behind the bytes filled, over the whole frame buffer
 abbrev pub behind : (filled : ℕ) (frame : List ℕ) → TakeEffect → TakeEffect
@@ -29,15 +26,11 @@ listed_in results at t = set results at (report_words (report_of t.ticket t.answ
 abbrev pub total_of : Answer → ℕ
 total_of a = (report_of 0 a).total
 
-abbrev pub left_after : (left : ℕ) (takes : Bool) → ℕ
-left_after left takes = cond takes (left - 1) 0
-
-abbrev pub advanced : Batch → Taken → (free : ℕ) → Batch
+abbrev pub advanced : Batch → Taken → (free : Option ℕ) → Batch
 advanced b t free = record {
   queue = t.queue;
   good = b.good;
   free = free;
   filled = b.filled + total_of t.answer;
   count = b.count + 1;
-  left = left_after b.left t.takes;
 }
