@@ -1,4 +1,4 @@
-// The calls, with the numbers, slices and words that C has.
+// The calls, with the numbers, slices and words that C has: the C interface gives a queue, a gso and a report as words.
 #![tactic(auto)]
 
 ghost use Rattle.interface.specs.Interface.{TakeCallLeaves, FinishCallLeaves, ReceiveLeaves, PostLeaves};
@@ -24,10 +24,9 @@ pub fn tollmeander_transmit_take(
     let mark = *halted;
     let queue = take_words::queue_of(*consumed, *replied, mark);
     let taken = taking::take(held, queue, grants, window, ring, frame);
-    let after = take_words::queue_left(taken);
-    *consumed = after.consumed;
-    *replied = after.replied;
-    *halted = reporting::mark_after(mark, after.halted);
+    *consumed = taken.queue.consumed;
+    *replied = taken.queue.replied;
+    *halted = reporting::mark_after(mark, taken.queue.halted);
     take_words::write_take(report, taken)
 }
 
@@ -67,11 +66,9 @@ pub fn tollmeander_receive_put(
     let mark = *halted;
     let queue = reporting::queue_of(*consumed, mark);
     let outcome = putting::put(queue, grants, window, ring, frame);
-    let after = outcome.queue;
-    *consumed = after.consumed;
-    *halted = reporting::mark_after(mark, after.halted);
-    let answer = outcome.answer;
-    reporting::write_put(report, answer)
+    *consumed = outcome.queue.consumed;
+    *halted = reporting::mark_after(mark, outcome.queue.halted);
+    reporting::write_put(report, outcome.answer)
 }
 
 // Lays a frame into the pages that references name, and posts it on a transmit ring as one packet.

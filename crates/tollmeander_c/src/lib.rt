@@ -1,4 +1,4 @@
-// The calls as C has them: each is the library's, with its promise.
+// The calls as C has them: each is the library's, with its promise. Their parameters stand in the order of the C interface.
 #![tactic(auto)]
 
 ghost use Rattle.interface.specs.Interface.{TakeCallLeaves, FinishCallLeaves, ReceiveLeaves, PostLeaves};

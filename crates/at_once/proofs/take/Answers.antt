@@ -1,4 +1,5 @@
 -- `take` meets its contract: what the two calls left is what is promised (`called_done`, `called_other`).
+use mathlib.Core.Path.{refl}
 use Rattle.at_once.proofs.Lent.{called_done, called_other}
 use Rattle.at_once.proofs.take.Goals as goal
 
@@ -6,7 +7,7 @@ pub returns-then-answer-ne-DONE : goal.returns-then-answer-ne-DONE
 returns-then-answer-ne-DONE c = let t = c.tollmeander_transmit_take-answer in
     called_other c.args.grants.now c.args.window.now c.args.frame.now c.args.finish.now
     (record { consumed = c.args.consumed.now; replied = c.args.replied.now; mark = c.args.halted.now; page = c.args.ring.now })
-    c.free_records-held.ensures
+    refl
     (record {
       returned = t.result;
       consumed = t.new.consumed;
@@ -24,7 +25,7 @@ returns c = let t = c.tollmeander_transmit_take-answer in
     let f = c.tollmeander_transmit_finish in
     called_done c.args.grants.now c.args.window.now c.args.frame.now c.args.finish.now
     (record { consumed = c.args.consumed.now; replied = c.args.replied.now; mark = c.args.halted.now; page = c.args.ring.now })
-    c.free_records-held.ensures
+    refl
     (record {
       returned = t.result;
       consumed = t.new.consumed;
@@ -37,4 +38,4 @@ returns c = let t = c.tollmeander_transmit_take-answer in
     })
     t.ensures
     (record { returned = f.result; replied = f.new.replied; page = f.new.ring; list = f.new.held; words = f.new.report })
-    c.if-answer-ne-DONE.false c.ticket_of-ticket.ensures f.ensures
+    c.if-answer-ne-DONE.false refl f.ensures
