@@ -1,11 +1,13 @@
 -- What follows from an answer. Of the answers that are left to `_` in a match, by their tags: nothing is taken, and where the queue is not
 -- halted either it stays.
-use mathlib.Core.Path.{◌≡◌, refl, sym, ◌∙◌}
+use mathlib.Core.Path.{◌≡◌, refl, sym, ap, ◌∙◌}
 use mathlib.Core.List.{List, [], ◌∷◌}
-use mathlib.Core.Bool.{false, cond}
+use mathlib.Core.Bool.{Bool, true, false, not, cond}
 use Prim.Native.Nat.{ℕ}
 use types.Run.{OneOf, miss}
 use denote.Enum.Declared.{tag_of}
+use Rattle.std.specs.Prelude.{Option, None, Some, is_some, is_none}
+use Rattle.words.proofs.Word.{no_confusion}
 use Rattle.held.specs.declared.Held.{Held}
 use Rattle.held.specs.Records.{free, added}
 use Rattle.transmit.specs.contracts.Answer.{the_type}
@@ -15,7 +17,7 @@ use Rattle.transmit.specs.declared.Answer.TheVariants.{Done, BadPage, HaltedAlre
 use Rattle.transmit.specs.Take.{TakeEffect}
 use Rattle.transmit.specs.Stages.{report_of, takes, queue_after, record_of, Gives}
 use Rattle.concluding.specs.declared.Taken.{Taken}
-use Rattle.concluding.specs.Taken.{taken_record, Concludes}
+use Rattle.concluding.specs.Taken.{record_taken, kept_in, TakenFor, Concludes}
 
 -- the tags of all but Done and Spoiled
 abbrev none : List ℕ
@@ -51,28 +53,37 @@ staying q NoRoom h = refl
 staying q NoRecord h = refl
 staying q BadRecords h = refl
 
--- the ticket is reported where a packet is handed over, and its record has it
-ticket-told : (q : Queue) (a : Answer) → report_of (record_of q a).ticket a ≡ report_of q.consumed a
-ticket-told q (Done s e) = refl
-ticket-told q (Spoiled c k n e b) = refl
-ticket-told q BadPage = refl
-ticket-told q HaltedAlready = refl
-ticket-told q Overflow = refl
-ticket-told q Empty = refl
-ticket-told q Misshapen = refl
-ticket-told q Waiting = refl
-ticket-told q NoRoom = refl
-ticket-told q NoRecord = refl
-ticket-told q BadRecords = refl
+-- a record is kept where one is taken
+kept : (b : Bool) (h : Held) (l : List Held) → kept_in l (cond b (Some h) None) ≡ cond b (added l h) l
+kept true h l = refl
+kept false h l = refl
+
+kept_some : (b : Bool) (h k : Held) → cond b (Some h) None ≡ Some k → b ≡ true
+kept_some true h k is = refl
+kept_some false h k is = no_confusion cc
+
+kept_takes : (b : Bool) (h : Held) → is_some (cond b (Some h) None) ≡ b
+kept_takes true h = refl
+kept_takes false h = refl
+
+pub takes_told : (q : Queue) (a : Answer) → is_some (record_taken q a) ≡ takes a
+takes_told q a = kept_takes (takes a) (record_of q a)
+
+-- what a test for none tells
+pub none_told : (o : Option ℕ) (b : Bool) → is_some o ≡ not b → b ≡ is_none o
+none_told None true h = refl
+none_told None false h = no_confusion cc
+none_told (Some x) true h = no_confusion cc
+none_told (Some x) false h = refl
 
 -- an answer with the queue behind it and its record
 pub concludes : (e : TakeEffect) (q : Queue) (l : List Held) (a : Answer) (ring written : List ℕ) (t : Taken) → Gives e q l a ring written
-    → t.answer ≡ a → t.queue ≡ queue_after q a → t.takes ≡ takes a → taken_record t ≡ record_of q a → Concludes e q l t ring written
-concludes e q l a ring written t g is queues takings keeps = record {
-  report = (λ i. report_of (keeps i).ticket (is i)) ∙ ticket-told q a ∙ g.report;
-  queue = queues ∙ g.queue;
+    → TakenFor q a t → Concludes e q l t ring written
+concludes e q l a ring written t g k = record {
+  report = (λ i. report_of (k.ticket i) (k.answers i)) ∙ g.report;
+  queue = k.queue ∙ g.queue;
   page = g.page;
   frame = g.frame;
-  list = (λ i. cond (takings i) (added l (keeps i)) l) ∙ g.list;
-  room = λ h. g.room (sym takings ∙ h);
+  list = ap (kept_in l) k.keeps ∙ kept (takes a) (record_of q a) l ∙ g.list;
+  room = λ h is. g.room (kept_some (takes a) (record_of q a) h (sym k.keeps ∙ is));
 }

@@ -100,10 +100,11 @@ fn record_of(queue: Queue, answer: Answer) -> Option<Held>
 pub fn taken_of(queue: Queue, answer: Answer) -> Taken
     ensures { TakenFor queue answer result }
 {
+    let ticket = queue.consumed;
     Taken {
         answer,
         queue: queue_after(queue, answer),
-        ticket: queue.consumed,
+        ticket,
         record: record_of(queue, answer),
     }
 }

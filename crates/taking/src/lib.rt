@@ -22,7 +22,8 @@ pub fn take(
 {
     let found = glancing::look_over(list, queue.consumed, queue.replied);
     let taken = concluding::conclude(queue, found, grants, window, ring, frame);
-    if let (Some(at), Some(held)) = (noting::free_in(found), taken.record) {
+    if let Some(held) = taken.record {
+        let at = noting::free_in(found).unwrap();
         records::add(list, at, held);
     }
     taken
