@@ -81,3 +81,11 @@ hands_over table window q sound full full' page ring frame written same known on
     let h' : HandedOne table window page q.consumed frame true written = rw (ap is_some is) at h in
     let so' : Found q sound full l = rw known so in
     rw (← same) (quick_gives table window q sound full page one frame written h' l so' a (answers a is))
+
+-- what is decided on a frame buffer that is as it was
+pub decided_as : (table window : List ℕ) (q : Queue) (sound : Bool) (free : Option ℕ) (full : Bool) → is_some free ≡ not full → (ring frame lent : List ℕ) → lent ≡ frame
+    → (a : Answer) (ring' written : List ℕ) → ((l : List Held) → Found q sound full l → Gives (transmit_take table window q ring lent l) q l a ring' written)
+    → (l : List Held) → Found q sound (is_none free) l → Gives (transmit_take table window q ring frame l) q l a ring' written
+decided_as table window q sound free full told ring frame lent same a ring' written decides l found =
+    let found' : Found q sound full l = rw (full_told free full told) found in
+    rw (← same) (decides l found')
