@@ -71,16 +71,19 @@ vacancy_behind l x at is l' set found by =
     let rest = drop at l' in
     let lent : take (length l' - at) rest ≡ rest = take_all (length l' - at) rest (omega (arith, length-drop at l')) in
     let from : found ≡ cond (all in_use rest) None (Some (0 + place rest)) =
-        by ∙ ap (position (λ (h : Held). not (in_use h))) lent ∙ position_from-zero (λ (h : Held). not (in_use h)) rest ∙ found_from rest 0 in
+    by ∙ ap (position (λ (h : Held). not (in_use h))) lent ∙ position_from-zero (λ (h : Held). not (in_use h)) rest ∙ found_from rest 0 in
     let behind : free_from (0 + at) rest ≡ free_from 0 l' = rw set (rw is (kept_from l x 0)) in
     let whole : vacancy l' ≡ cond (all in_use rest) None (Some (at + place rest)) =
-        sym (vacancy_found l') ∙ position_from-zero (λ (h : Held). not (in_use h)) l' ∙ sym behind ∙ ap (λ (n : ℕ). free_from n rest) (omega arith) ∙ found_from rest at in
+    sym (vacancy_found l') ∙ position_from-zero (λ (h : Held). not (in_use h)) l' ∙ sym behind ∙ ap (λ (n : ℕ). free_from n rest) (omega arith) ∙ found_from rest at in
     go (all in_use rest) from whole
   where
     go : (b : Bool) → found ≡ cond b None (Some (0 + place (drop at l'))) → vacancy l' ≡ cond b None (Some (at + place (drop at l')))
         → (found ≡ None → None ≡ vacancy l') × ((n : ℕ) → found ≡ Some n → Some (at + n) ≡ vacancy l')
     go true f w = (λ h. sym w, λ n h. cc)
-    go false f w = (λ h. cc, λ n h.
-      let k : 0 + place (drop at l') ≡ n = cc in
-      let m : n ≡ place (drop at l') = omega (arith, k) in
-      ap (λ (i : ℕ). Some (at + i)) m ∙ sym w)
+    go false f w = (
+      λ h. cc,
+      λ n h.
+          let k : 0 + place (drop at l') ≡ n = cc in
+          let m : n ≡ place (drop at l') = omega (arith, k) in
+          ap (λ (i : ℕ). Some (at + i)) m ∙ sym w,
+    )
