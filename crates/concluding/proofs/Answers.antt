@@ -17,7 +17,7 @@ use Rattle.transmit.specs.declared.Answer.TheVariants.{Done, BadPage, HaltedAlre
 use Rattle.transmit.specs.Take.{TakeEffect}
 use Rattle.transmit.specs.Stages.{report_of, takes, queue_after, record_of, Gives}
 use Rattle.concluding.specs.declared.Taken.{Taken}
-use Rattle.concluding.specs.Taken.{record_taken, kept_in, TakenFor, Concludes}
+use Rattle.concluding.specs.Taken.{record_taken, ticket_in, kept_in, TakenFor, Concludes}
 
 -- the tags of all but Done and Spoiled
 abbrev none : List ℕ
@@ -69,6 +69,20 @@ kept_takes false h = refl
 pub takes_told : (q : Queue) (a : Answer) → is_some (record_taken q a) ≡ takes a
 takes_told q a = kept_takes (takes a) (record_of q a)
 
+-- the ticket is reported where a packet is handed over, and its record has it
+pub ticket_told : (q : Queue) (a : Answer) → report_of (ticket_in (record_taken q a)) a ≡ report_of q.consumed a
+ticket_told q (Done s e) = refl
+ticket_told q (Spoiled c k n e b) = refl
+ticket_told q BadPage = refl
+ticket_told q HaltedAlready = refl
+ticket_told q Overflow = refl
+ticket_told q Empty = refl
+ticket_told q Misshapen = refl
+ticket_told q Waiting = refl
+ticket_told q NoRoom = refl
+ticket_told q NoRecord = refl
+ticket_told q BadRecords = refl
+
 -- what a test for none tells
 pub none_told : (o : Option ℕ) (b : Bool) → is_some o ≡ not b → b ≡ is_none o
 none_told None true h = refl
@@ -80,7 +94,7 @@ none_told (Some x) false h = refl
 pub concludes : (e : TakeEffect) (q : Queue) (l : List Held) (a : Answer) (ring written : List ℕ) (t : Taken) → Gives e q l a ring written
     → TakenFor q a t → Concludes e q l t ring written
 concludes e q l a ring written t g k = record {
-  report = (λ i. report_of (k.ticket i) (k.answers i)) ∙ g.report;
+  report = (λ i. report_of (k.ticket i) (k.answers i)) ∙ ticket_told q a ∙ g.report;
   queue = k.queue ∙ g.queue;
   page = g.page;
   frame = g.frame;

@@ -12,6 +12,11 @@ use Rattle.concluding.specs.declared.Taken.{Taken}
 abbrev pub record_taken : Queue → Answer → Option Held
 record_taken q a = cond (takes a) (Some (record_of q a)) None
 
+-- the ticket in a record, 0 where there is none
+abbrev pub ticket_in : Option Held → ℕ
+ticket_in None = 0
+ticket_in (Some h) = h.ticket
+
 -- the list with a record kept in the first free one's place, if there is one to keep
 abbrev pub kept_in : List Held → Option Held → List Held
 kept_in l None = l
@@ -21,7 +26,7 @@ kept_in l (Some h) = added l h
 pub record TakenFor (q : Queue) (a : Answer) (t : Taken) : Type 0 where
   pub answers : t.answer ≡ a
   pub queue : t.queue ≡ queue_after q a
-  pub ticket : t.ticket ≡ q.consumed
+  pub ticket : t.ticket ≡ ticket_in (record_taken q a)
   pub keeps : t.record ≡ record_taken q a
 
 -- the effect e on the queue q and the list l, the record not stored yet

@@ -8,14 +8,14 @@ ghost use Rattle.held.specs.Records.{free, ended, failed};
 ghost use Rattle.noting.specs.Survey.{free_in};
 ghost use Rattle.transmit.specs.Take.{halt, transmit_take};
 ghost use Rattle.transmit.specs.Stages.{none_held, queue_after, Found};
-ghost use Rattle.concluding.specs.Taken.{record_taken, TakenFor, Concludes};
+ghost use Rattle.concluding.specs.Taken.{record_taken, TakenFor, Concludes, ticket_in};
 
 use held::Held;
 use noting::Tally;
 use transmit::{Answer, Queue};
 
-// What a take comes to: its answer, the queue that it leaves, the counter where it began, which is the ticket of a packet that is handed
-// over, and the record of the packet that it takes, if it takes one.
+// What a take comes to: its answer, the queue that it leaves, and the record of the packet that it takes, if it takes one, with the ticket
+// in it, else 0.
 #[derive(Clone, Copy)]
 pub struct Taken {
     pub answer: Answer,
@@ -96,16 +96,23 @@ fn record_of(queue: Queue, answer: Answer) -> Option<Held>
     }
 }
 
+// The ticket in a record, 0 where there is none.
+fn ticket_in(kept: Option<Held>) -> u32
+    ensures { result ≡ ticket_in kept }
+{
+    kept.map_or(0, |held| held.ticket)
+}
+
 // What a take with this answer comes to.
 pub fn taken_of(queue: Queue, answer: Answer) -> Taken
     ensures { TakenFor queue answer result }
 {
-    let ticket = queue.consumed;
+    let record = record_of(queue, answer);
     Taken {
         answer,
         queue: queue_after(queue, answer),
-        ticket,
-        record: record_of(queue, answer),
+        ticket: ticket_in(record),
+        record,
     }
 }
 

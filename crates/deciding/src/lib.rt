@@ -96,8 +96,8 @@ pub fn decide(
     )
 }
 
-// Whether a take comes to a packet of one slot, and a record is free for it; told of the list of records as a take is.
-pub fn comes_to_one(queue: Queue, sound: bool, full: bool, ring: &Page) -> bool
+// Whether a take on a ring page comes to a packet of one slot, and a record is free for it.
+fn page_comes_to_one(queue: Queue, sound: bool, full: bool, ring: &Page) -> bool
     ensures { result ≡ true → ComesToOne queue sound full ring.now }
 {
     sound
@@ -106,4 +106,14 @@ pub fn comes_to_one(queue: Queue, sound: bool, full: bool, ring: &Page) -> bool
         && !overflows(queue.consumed, queue.replied, ring)
         && ring::posted(ring, queue.consumed) != 0
         && divider::is_alone(ring, queue.consumed)
+}
+
+// Whether a take comes to a packet of one slot, and a record is free for it; told of the list of records as a take is.
+pub fn comes_to_one(queue: Queue, sound: bool, full: bool, ring: &[u8]) -> bool
+    ensures { result ≡ true → ComesToOne queue sound full ring.now }
+{
+    match ring.as_array::<{ ring::PAGE_SIZE }>() {
+        Some(page) => page_comes_to_one(queue, sound, full, page),
+        None => false,
+    }
 }

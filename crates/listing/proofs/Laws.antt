@@ -17,6 +17,7 @@ use Rattle.transmit.specs.Stages.{report_of, takes, record_of, packet_one, Comes
 use Rattle.transmit.proofs.Quick.{quick_gives}
 use Rattle.concluding.specs.declared.Taken.{Taken}
 use Rattle.concluding.specs.Taken.{kept_in, TakenFor, ConcludesAs}
+use Rattle.concluding.proofs.Answers.{ticket_told}
 use Rattle.listing.specs.Listing.{behind}
 
 -- a record is kept where a packet is taken
@@ -34,7 +35,7 @@ concludes_as e q l a ring written t g k =
     let taken : is_some t.record ≡ takes a = ap is_some k.keeps ∙ some (takes a) (record_of q a) in
     record {
       concludes = record {
-        report = (λ i. report_of (k.ticket i) (k.answers i)) ∙ g.report;
+        report = (λ i. report_of (k.ticket i) (k.answers i)) ∙ ticket_told q a ∙ g.report;
         queue = k.queue ∙ g.queue;
         page = g.page;
         frame = g.frame;
