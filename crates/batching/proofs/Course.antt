@@ -172,6 +172,11 @@ pub record ToDo (table window : List ℕ) (most : ℕ) (start : Progress) (lent 
   pub entries : results ≡ stored lent reports
   pub same : batch table window most start ≡ batch table window left (record { queue = b.queue; page = page; list = l; frame = frame; filled = b.filled; reports = reports })
 
+-- the same with another name of what is left
+pub to_do_at : (table window : List ℕ) (most : ℕ) (start : Progress) (lent : List (List ℕ)) (left left' : ℕ) (b : Batch) (page : List ℕ) (l : List Held) (frame : List ℕ) (results : List (List ℕ))
+    → left ≡ left' → ToDo table window most start lent left b page l frame results → ToDo table window most start lent left' b page l frame results
+to_do_at table window most start lent left left' b page l frame results e v = record { reports = v.reports; counted = v.counted; entries = v.entries; same = v.same ∙ ap (λ (n : ℕ). batch table window n (record { queue = b.queue; page = page; list = l; frame = frame; filled = b.filled; reports = v.reports })) e }
+
 length_words : (rs : List Report) → length (map report_words rs) ≡ length rs
 length_words [] = refl
 length_words (r ∷ rs) = ap suc (length_words rs)

@@ -1,6 +1,5 @@
 -- `take_next` meets its contract: what a take leaves is the take that the definition makes next, and the numbers fit again (`step_taken`,
 -- `step_fits`).
-use mathlib.Core.Path.{refl}
 use Rattle.batching.proofs.Course.{take_told, keep_fits, step_taken, step_fits}
 use Rattle.batching.proofs.take_next.Goals as goal
 
@@ -17,6 +16,6 @@ returns c = let b = c.args.batch.now in
     let frame = c.args.frame.now in
     let told = take_told c.args.grants.now c.args.window.now b c.args.ring.now l frame c.requires.0 in
     let whole = c.take_listed-taken.ensures.1 l told in (
-      step_fits c.args.grants.now c.args.window.now b c.args.ring.now l frame c.requires.0 _ _ _ whole _ _ c.keep-free.ensures _ c.advance.ensures.0 c.args.results.now _ c.take_listed-taken.ensures.0 _ refl c.advance.ensures.1,
-      step_taken c.args.grants.now c.args.window.now b c.args.ring.now l frame c.requires.0 _ _ _ whole _ _ c.keep-free.ensures _ c.advance.ensures.0 c.args.results.now _ c.take_listed-taken.ensures.0 _ refl,
+      step_fits c.args.grants.now c.args.window.now b c.args.ring.now l frame c.requires.0 _ _ _ whole _ _ c.keep-free.ensures _ c.advance.ensures.0 c.args.results.now _ c.take_listed-taken.ensures.0 _ c.is_some.ensures c.advance.ensures.1,
+      step_taken c.args.grants.now c.args.window.now b c.args.ring.now l frame c.requires.0 _ _ _ whole _ _ c.keep-free.ensures _ c.advance.ensures.0 c.args.results.now _ c.take_listed-taken.ensures.0 _ c.is_some.ensures,
     )
