@@ -1,7 +1,7 @@
 -- What holds of the page holds of the slice that was lent, which is the page.
 use Rattle.std.proofs.Common.{sym, subst, List, ℕ}
 use Rattle.std.proofs.lemmas.Option.{MatchOption-at_some}
-use Rattle.core.specs.Array.{IsWholeChunk}
+use Rattle.std.specs.Array.{IsWholeChunk}
 use Rattle.transmit.specs.Stages.{ComesToOne}
 use Rattle.deciding.proofs.comes_to_one.Goals as goal
 

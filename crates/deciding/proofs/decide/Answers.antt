@@ -1,7 +1,7 @@
 -- `decide` meets its contract, in the order of the answers.
 use Rattle.std.proofs.Common.{sym, refl, ◌∙◌, arith}
 use Rattle.std.proofs.lemmas.Option.{MatchOption-at_some, MatchOption-at_none}
-use Rattle.core.specs.Array.{IsWholeChunk}
+use Rattle.std.specs.Array.{IsWholeChunk}
 use borrow.Author.Tests.{ne_eqb}
 use Rattle.transmit.specs.declared.Answer.TheVariants.{BadPage, BadRecords, HaltedAlready, Overflow, Empty}
 use Rattle.transmit.specs.Take.{stop}
