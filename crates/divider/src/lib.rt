@@ -20,6 +20,8 @@ pub fn is_alone(page: &Page, first: u32) -> bool
 }
 
 // The packet whose extras were read. The first slot's fields are read when all slots are there: a waiting packet needs its flags only.
+// It is taken in line at both calls, since a call of its own passes its results through memory.
+#[inline(always)]
 fn read_rest(
     page: &Page,
     first: u32,
