@@ -33,7 +33,10 @@ fn read_rest(
     requires { AfterExtras page.now first posted more extras }
     ensures { FrontRead (transmit_slots page.now first posted) (sizes_in parts.old) (sizes_in parts.new) result }
 {
-    let later = scanning::read_later(page, first, posted, extras.count, more, parts)?;
+    let later = match scanning::read_later(page, first, posted, extras.count, more, parts) {
+        Ok(later) => later,
+        Err((why, _)) => return Err(why),
+    };
     Ok(Outline {
         head: ring::read::<DataSlot>(page, first),
         slots: later.count + 1 + extras.count,
@@ -61,6 +64,9 @@ pub fn read(
     if !announced {
         return read_rest(page, first, posted, Extras::NONE, more, parts);
     }
-    let extras = scanning::read_extras(page, first, posted, announced)?;
+    let extras = match scanning::read_extras(page, first, posted, announced) {
+        Ok(extras) => extras,
+        Err((why, _)) => return Err(why),
+    };
     read_rest(page, first, posted, extras, more, parts)
 }

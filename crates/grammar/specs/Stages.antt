@@ -58,15 +58,27 @@ module _ (page : List ℕ) (first posted : ℕ) where
     pub gso_size : r.gso_size ≡ gso_size_of r.count (transmit_slots page first posted)
     pub gso_type : r.gso_type ≡ gso_type_of r.count (transmit_slots page first posted)
 
+  -- so many extras were read, but not all: what was found of them so far
+  pub record SomeExtras (r : Extras) : Type 0 where
+    pub few : r.count + 1 ≤ posted
+    pub limit : within 1 r.count ≡ true
+    pub gso_size : r.gso_size ≡ gso_size_of r.count (transmit_slots page first posted)
+    pub gso_type : r.gso_type ≡ gso_type_of r.count (transmit_slots page first posted)
+
   -- the extras were read, to the last or to where they end it
-  abbrev pub ExtrasRead : (announced : Bool) (r : Result Extras Unfinished) → Type 0
+  abbrev pub ExtrasRead : (announced : Bool) (r : Result Extras (Unfinished × Extras)) → Type 0
   ExtrasRead announced (Ok r) = AllExtras announced r
-  ExtrasRead announced (Err e) = (more : Bool) → scan (behind 1) 1 0 announced more ≡ cut_of e
+  ExtrasRead announced (Err e) = ((more : Bool) → scan (behind 1) 1 0 announced more ≡ cut_of e.0) × SomeExtras e.1
 
   -- so many later data slots were read, behind so many extras
   pub record SizesRead (extras : ℕ) (before after : List ℕ) (count : ℕ) : Type 0 where
     pub few : count + 1 + extras ≤ posted
     pub table : after ≡ splice before 1 (map size (transmit_slots page (first + (extras + 1)) count))
+
+  -- and their sizes added up, though not of all
+  pub record SomeLater (extras : ℕ) (before after : List ℕ) (r : Later) : Type 0 where
+    pub read : SizesRead extras before after r.count
+    pub sum : r.sum ≡ sizes (transmit_slots page (first + (extras + 1)) r.count)
 
   -- all of them
   pub record AllLater (extras : ℕ) (announced : Bool) (before after : List ℕ) (r : Later) : Type 0 where
@@ -75,9 +87,9 @@ module _ (page : List ℕ) (first posted : ℕ) where
     pub sum : r.sum ≡ sizes (transmit_slots page (first + (extras + 1)) r.count)
 
   -- the later data slots were read, to the last or to where they end it
-  abbrev pub LaterRead : (extras : ℕ) (announced : Bool) (before after : List ℕ) (r : Result Later Unfinished) → Type 0
+  abbrev pub LaterRead : (extras : ℕ) (announced : Bool) (before after : List ℕ) (r : Result Later (Unfinished × Later)) → Type 0
   LaterRead extras announced before after (Ok r) = AllLater extras announced before after r
-  LaterRead extras announced before after (Err e) = (scan (behind (extras + 1)) 1 extras false announced ≡ cut_of e) × ((count : ℕ) × SizesRead extras before after count)
+  LaterRead extras announced before after (Err e) = (scan (behind (extras + 1)) 1 extras false announced ≡ cut_of e.0) × SomeLater extras before after e.1
 
   -- where the extras were read and data slots may follow
   pub record AfterExtras (more : Bool) (r : Extras) : Type 0 where

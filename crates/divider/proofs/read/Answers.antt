@@ -1,7 +1,6 @@
 -- `read` meets its contract: the scan starts behind the first slot, goes on behind the extras, of which there may be none, and
 -- ends where a stage ends it.
 use mathlib.Core.Path.{◌≡◌, ◌∙◌}
-use Rattle.std.proofs.lemmas.Result.{err_from_is_err_and}
 use Rattle.grammar.proofs.Reading.{read_unfinished, head_read, after_extras, no_extras}
 use Rattle.netif.specs.Slot.{transmit_slots}
 use Rattle.grammar.specs.Divide.{scan, divide}
@@ -19,11 +18,10 @@ read_rest-requires c = let a = c.args in
     after_extras a.page.now a.first a.posted _ _ _ (head (goal.at.read_rest-requires c).After-extra_follows-announced)
     (no_extras a.page.now a.first a.posted _ c.if-not-announced.true c.requires)
 
-pub returns-in_err-extras : goal.returns-in_err-extras
-returns-in_err-extras c =
-    let p = err_from_is_err_and c.from_residual.result c.from_residual.ensures.1 in
-    rw (p.1, p.2) (read_unfinished _ _ _ _ (head (goal.at.returns-in_err-extras c).After-extra_follows-announced ∙ c.in_err-extras.ensures c.more_data-more.result))
+pub returns-in-Err : goal.returns-in-Err
+returns-in-Err c =
+    read_unfinished _ _ _ _ (head (goal.at.returns-in-Err c).After-extra_follows-announced ∙ c.in-Err.ensures.0 c.more_data-more.result)
 
 pub read_rest-requires-2 : goal.read_rest-requires-2
 read_rest-requires-2 c = let a = c.args in
-    after_extras a.page.now a.first a.posted _ _ _ (head (goal.at.read_rest-requires-2 c).After-extra_follows-announced) c.in_ok-extras.ensures
+    after_extras a.page.now a.first a.posted _ _ _ (head (goal.at.read_rest-requires-2 c).After-extra_follows-announced) c.in-Ok.ensures
