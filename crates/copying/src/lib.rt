@@ -4,17 +4,19 @@
 ghost use Rattle.std.specs.Prelude.{◌≡◌, ◌+◌, ◌*◌, ◌/◌, ◌≤◌, ◌<◌, length, take};
 ghost use Rattle.words.specs.Word.{splice};
 
-// Copies the first bytes of src to the front of dst in passes of eight; the number of passes made. It is no one `copy_from_slice`,
-// since `copy` promises how many passes there are.
+// Copies the first bytes of src to the front of dst in passes of eight; the number of passes made, which the loop counts: it is no
+// one `copy_from_slice`, since `copy` promises how many passes there are.
 fn copy_passes(src: &[u8], dst: &mut [u8], passes: usize) -> usize
     requires { (8 * passes ≤ length src.now) × (8 * passes ≤ length dst.old) }
     ensures { (dst.new ≡ splice dst.old 0 (take (8 * passes) src.now)) × (result ≡ passes) }
 {
+    let mut made = 0;
     for k in 0..passes {
         let eight = words::bytes_at::<8>(src, 8 * k);
         words::put_bytes(dst, 8 * k, &eight);
+        made += 1;
     }
-    passes
+    made
 }
 
 // Copies the first bytes of src, at most a page, to the front of dst in passes of eight; the number of passes. They go
