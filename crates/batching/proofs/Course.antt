@@ -119,7 +119,7 @@ module _ (table window : List ℕ) (b : Batch) (page : List ℕ) (l : List Held)
     total : total_of t.answer ≡ e.report.total
     total = sym (total_told t.ticket t.answer) ∙ ap (λ (r : Report). r.total) c.report
 
-    module _ (next : Option ℕ) (l' : List Held) (k : KeptAt l t.«record» next l') (b' : Batch) (is : b' ≡ advanced b t next) (results results' : List (List ℕ)) (written : results' ≡ listed_in results b.count t)
+    module _ (next : Option ℕ) (l' : List Held) (k : KeptAt l b.free t.«record» next l') (b' : Batch) (is : b' ≡ advanced b t next) (results results' : List (List ℕ)) (written : results' ≡ listed_in results b.count t)
         (more : Bool) (told : more ≡ is_some t.«record») where
       pub step_taken : Steps table window b page l frame results more b' page' l' frame' results'
       step_taken = rw is (record {

@@ -1,5 +1,5 @@
 -- The course of a batch: its numbers, and what each take does to them and to what is lent.
-use Rattle.std.specs.Prelude.{◌≡◌, List, Option, Some, is_none, ◌++◌, Bool, true, ℕ, ◌+◌, ◌*◌, ◌≤◌, length, take, drop, set}
+use Rattle.std.specs.Prelude.{◌≡◌, List, Option, Some, None, is_none, ◌++◌, Bool, true, ℕ, ◌+◌, ◌*◌, ◌≤◌, length, take, drop, set}
 use Rattle.answer.specs.Words.{report_words}
 use Rattle.held.specs.declared.Held.{Held}
 use Rattle.held.specs.Records.{vacancy}
@@ -10,10 +10,11 @@ use Rattle.concluding.specs.Taken.{kept_in}
 use Rattle.batch.specs.Batch.{Progress, goes_on, stored}
 use Rattle.listing.specs.declared.Batch.{Batch}
 
--- a take's record is kept, if it takes one, and the first free record is looked for again
-pub record KeptAt (l : List Held) (kept : Option Held) (next : Option ℕ) (l' : List Held) : Type 0 where
+-- a take's record is kept, if it takes one, and the first free record is looked for again; else its place stays
+pub record KeptAt (l : List Held) (free : Option ℕ) (kept : Option Held) (next : Option ℕ) (l' : List Held) : Type 0 where
   pub records : l' ≡ kept_in l kept
   pub place : (h : Held) → kept ≡ Some h → next ≡ vacancy l'
+  pub stays : kept ≡ None → next ≡ free
 
 -- what the numbers say of the list of records: whether it is valid; and if it is, where its first free record is
 pub record Known (b : Batch) (l : List Held) : Type 0 where

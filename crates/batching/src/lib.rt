@@ -22,7 +22,7 @@ fn first_free(list: &[Held]) -> Option<usize>
 // Keeps the record of a take, if it takes one, in the first free one's place; the place of the first free record then.
 fn keep(list: &mut [Held], free: Option<usize>, kept: Option<Held>) -> Option<usize>
     requires { (h : Held) → kept ≡ Some h → (full list.old ≡ false) × (free ≡ vacancy list.old) }
-    ensures { KeptAt list.old kept result list.new }
+    ensures { KeptAt list.old free kept result list.new }
 {
     let Some(held) = kept else {
         return free;

@@ -48,6 +48,7 @@ returns-in_err-next c =
     record {
       records = record_kept l c.in_ok-at.at c.in-Some.held c.args.kept c.in-Some.is place.0 _ c.add.ensures;
       place = λ h is. c.from_residual-in_err-next.ensures ∙ (vacancy_behind l c.in-Some.held c.in_ok-at.at place.0 _ c.add.ensures _ c.first_free.ensures).0 c.in_err-next.was;
+      stays = λ none. cc (none, c.in-Some.is);
     }
 
 pub returns : goal.returns
@@ -57,4 +58,5 @@ returns c =
     record {
       records = record_kept l c.in_ok-at.at c.in-Some.held c.args.kept c.in-Some.is place.0 _ c.add.ensures;
       place = λ h is. (vacancy_behind l c.in-Some.held c.in_ok-at.at place.0 _ c.add.ensures _ c.first_free.ensures).1 _ c.in_ok-next.was;
+      stays = λ none. cc (none, c.in-Some.is);
     }
