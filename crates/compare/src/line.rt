@@ -1,21 +1,18 @@
 // The printed lines, field by field.
-use division::{Cuts, Refused};
+use division::{Cuts, Ending, Refused};
 use lines::output::Output;
 use readers::Compared;
-use std::fmt;
 use std::io::Write;
 use tally::Tally;
 
-// How an answer ends: its rest, or why it was refused.
-#[derive(Clone, Copy)]
-struct End(Result<Cuts, Refused>);
-
-impl fmt::Display for End {
-    fn fmt<W: fmt::Write>(&self, f: &mut fmt::Formatter<W>) -> fmt::Result {
-        match self.0 {
-            Ok(cuts) => cuts.ending.fmt(f),
-            Err(refused) => refused.fmt(f),
-        }
+// How an answer ends: its rest, or why it was refused; with the blank before it, so that both are one write.
+fn end_of(answer: Result<Cuts, Refused>) -> &'static str {
+    match answer.map(|cuts| cuts.ending) {
+        Ok(Ending::Empty) => " empty",
+        Ok(Ending::Waiting) => " waiting",
+        Ok(Ending::Misshapen) => " misshapen",
+        Err(Refused::Uneven) => " uneven",
+        Err(Refused::TooLong) => " too-long",
     }
 }
 
@@ -29,13 +26,18 @@ pub fn page<W: Write>(out: &mut Output<W>, name: &[u8], slots: usize, compared: 
         out,
         " slots {slots} slow {slow} fast {fast} agreed {agreed}"
     );
-    writeln!(out, " ends {} {}", End(compared.slow), End(compared.fast));
+    writeln!(
+        out,
+        " ends{}{}",
+        end_of(compared.slow),
+        end_of(compared.fast)
+    );
 }
 
-// The line of a stored page that was not compared, and why.
-pub fn refused<W: Write>(out: &mut Output<W>, name: &[u8], why: &str) {
+// The line of a stored page that was not compared, and why: the rest of the line, in one write.
+pub fn refused<W: Write>(out: &mut Output<W>, name: &[u8], why: &[u8]) {
     out.text(name);
-    writeln!(out, " {why}");
+    out.text(why);
 }
 
 // The fields that a setting's line and the last line share.

@@ -42,7 +42,7 @@ fn compare_page<W: Write>(out: &mut Output<W>, name: &[u8], page: &Page) -> Tall
     let from = runs::counter(page);
     let posted = ring::posted(page, from);
     if DataSlot::COUNT < posted {
-        line::refused(out, name, "overflow");
+        line::refused(out, name, b" overflow\n");
         return Tally::default();
     }
     let mut run = [0u8; 3072];
@@ -56,7 +56,7 @@ pub fn compare<R: Files, W: Write>(rt: &R, out: &mut Output<W>, name: &[u8]) -> 
     ensures { Agreeing result.runs result × (result.runs ≤ 1) }
 {
     let Some(page) = load(rt, name) else {
-        line::refused(out, name, "unreadable");
+        line::refused(out, name, b" unreadable\n");
         return Tally::default();
     };
     compare_page(out, name, &page)

@@ -6,8 +6,6 @@
 ghost use Rattle.std.specs.Prelude.{◌≡◌};
 ghost use Rattle.division.specs.Answer.{number_of};
 
-use std::fmt;
-
 // What the rest of a run is: nothing, a proper beginning of a packet, or the beginning of none.
 #[derive(Clone, Copy, PartialEq, Eq)]
 pub enum Ending {
@@ -29,16 +27,6 @@ impl From<Ending> for u32 {
     }
 }
 
-impl fmt::Display for Ending {
-    fn fmt<W: fmt::Write>(&self, f: &mut fmt::Formatter<W>) -> fmt::Result {
-        match self {
-            Ending::Empty => write!(f, "empty"),
-            Ending::Waiting => write!(f, "waiting"),
-            Ending::Misshapen => write!(f, "misshapen"),
-        }
-    }
-}
-
 // A division: how many packets were cut off, and what the rest is. How many slots each packet has stands in a table.
 // The table is the caller's, with its count here: `DividedAs` promises that its places behind the cuts stay.
 #[derive(Clone, Copy, PartialEq, Eq)]
@@ -54,13 +42,4 @@ pub enum Refused {
     Uneven,
     // There are more than 256 slots.
     TooLong,
-}
-
-impl fmt::Display for Refused {
-    fn fmt<W: fmt::Write>(&self, f: &mut fmt::Formatter<W>) -> fmt::Result {
-        match self {
-            Refused::Uneven => write!(f, "uneven"),
-            Refused::TooLong => write!(f, "too-long"),
-        }
-    }
 }

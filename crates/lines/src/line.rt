@@ -9,21 +9,21 @@ pub fn begin<W: Write>(out: &mut Output<W>, name: &[u8], ring: &[u8], consumed: 
     write!(out, " consumed {consumed}");
 }
 
-// The name of an answer, which a report has as a number, as the C interface has it.
+// The name of an answer, which a report has as a number, as the C interface has it; with the blank before it, so that both are one write.
 fn answer_name(answer: u32) -> &'static str {
     match answer {
-        0 => "done",
-        1 => "bad-page",
-        2 => "halted-already",
-        3 => "overflow",
-        4 => "empty",
-        5 => "misshapen",
-        6 => "waiting",
-        7 => "spoiled",
-        8 => "no-room",
-        9 => "bad-frame-length",
-        10 => "no-buffers",
-        _ => "?",
+        0 => " done",
+        1 => " bad-page",
+        2 => " halted-already",
+        3 => " overflow",
+        4 => " empty",
+        5 => " misshapen",
+        6 => " waiting",
+        7 => " spoiled",
+        8 => " no-room",
+        9 => " bad-frame-length",
+        10 => " no-buffers",
+        _ => " ?",
     }
 }
 
@@ -40,7 +40,7 @@ fn told<W: Write>(
     let [.., total, blank, validated, gso_size, gso_type, _] = *report;
     write!(
         out,
-        " answer {answer} {} cause {cause} place {place}",
+        " answer {answer}{} cause {cause} place {place}",
         answer_name(answer)
     );
     write!(

@@ -7,7 +7,7 @@ use Rattle.grammar.specs.Packet.{first_of, later_of}
 use Rattle.answer.specs.declared.Fault.{Fault}
 use Rattle.answer.specs.Verdict.{Verdict, good}
 use Rattle.packet.specs.Judge.{own_part, judge_slot, judge_later}
-use Rattle.grammar.specs.Stages.{outline_of}
+use Rattle.grammar.specs.Stages.{outline_of, sizes_in}
 use Rattle.grammar.specs.declared.Outline.{Outline}
 use Rattle.grammar.specs.declared.Part.{Part}
 
@@ -66,10 +66,13 @@ pub record Ready (page : List ℕ) (c : ℕ) (o : Outline) : Type 0 where
 abbrev pub later_at : List ℕ → (c extras later : ℕ) → List Slot
 later_at page c extras later = transmit_slots page (c + (extras + 1)) later
 
--- the later data slots were judged: where they are good, their parts are in the table from the place 1 on; otherwise it may hold anything
+-- the later data slots were judged: where they are good, their parts are in the table from the place 1 on, and those behind them are as
+-- before; otherwise it may hold anything, but for the sizes, which stay
 pub record LaterJudged (table window page : List ℕ) (c extras later : ℕ) (before after : List Part) (r : Verdict) : Type 0 where
   pub verdict : r ≡ judge_later table window (suc extras) (later_at page c extras later)
   pub parts_are : r ≡ good → take (later + 1) after ≡ take 1 before ++ map (later_plan table) (later_at page c extras later)
+  pub behind : r ≡ good → drop (later + 1) after ≡ drop (later + 1) before
+  pub sizes_stay : sizes_in after ≡ sizes_in before
 
 -- the verdict v on the packet p with e extras; where it is good, the table holds its plan. After a refusal it may hold anything
 pub record Judged (table : List ℕ) (e : ℕ) (p : List Slot) (v : Verdict) (parts : List Part) (r : Verdict) : Type 0 where

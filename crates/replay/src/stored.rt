@@ -1,5 +1,5 @@
 // The stored ring pages of real guests: a folder for each, with a ring page, a grant table and a window.
-ghost use Rattle.std.specs.Prelude.{◌≡◌, length};
+ghost use Rattle.std.specs.Prelude.{◌≡◌, ◌++◌, ◌≤◌, length, IfSome};
 ghost use Rattle.lines.specs.Counts.{IsPrefixLen};
 
 use crate::calls;
@@ -11,7 +11,9 @@ use std::rt::Files;
 use std::str;
 
 // The path of a folder's file, put together in a buffer; nothing where there is no room for it or it is not UTF-8.
-fn path_of<'a>(folder: &[u8], file: &[u8], room: &'a mut [u8]) -> Option<&'a str> {
+fn path_of<'a>(folder: &[u8], file: &[u8], room: &'a mut [u8]) -> Option<&'a str>
+    ensures { IfSome result (λ path. (path.now ≡ folder.now ++ file.now) × (length path.now ≤ length room.old)) }
+{
     let n = folder.len() + file.len();
     if room.len() < n {
         return None;
