@@ -1,13 +1,17 @@
 -- Laws of bytes copied so far: one more, the next ones, and all of them.
 use mathlib.Core.Path.{◌≡◌, sym, ap, ◌∙◌}
-use mathlib.Core.List.{List, ◌++◌, append_assoc}
+use mathlib.Core.List.{List, [], ◌∷◌, ◌++◌, append_assoc}
 use Prim.Native.Nat.{ℕ, ◌+◌, ◌-◌, ◌≤◌, ◌<◌}
 use native.Mathlib.Numerals.{add-one}
 use native.Mathlib.Omega.{arith}
 use lib.ListN.{length, take, drop, get_or, set, length-append, length-drop, take-append-drop}
-use lib.Seq.{length-take-le, drop-drop, drop-append-add, drop-append-le, take_at, take-add, take-suc}
+use lib.Seq.{length-take-le, drop-drop, drop-append-add, drop-append-le, take_at, take-add, take-suc, take-suc-set}
 use Rattle.words.specs.Word.{splice}
 use Rattle.words.proofs.Word.{splice_more, splice_join}
+
+-- the first bytes of h set to those of s: one more
+pub held_more : (h s : List ℕ) (k : ℕ) → k < length h → k < length s → take k h ≡ take k s → take (k + 1) (set h k (get_or s k 0)) ≡ take (k + 1) s
+held_more h s k f g e = rw add-one (take-suc-set h k (get_or s k 0) f ∙ ap (◌++ (get_or s k 0 ∷ [])) e ∙ sym (take-suc s k 0 g))
 
 -- the first bytes of s written at i: one more
 pub splice_next : (l : List ℕ) (i : ℕ) (s : List ℕ) (k n : ℕ) → n ≡ i + k → k < length s → n < length l → set (splice l i (take k s)) n (get_or s k 0) ≡ splice l i (take (k + 1) s)

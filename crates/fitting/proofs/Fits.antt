@@ -5,7 +5,7 @@ use Rattle.words.proofs.Word.{and_both, lt_or_ge, clash}
 use Rattle.grammar.specs.Grammar.{within}
 use Rattle.grammar.proofs.Within.{within_bound}
 use Rattle.held.specs.declared.Held.{Held}
-use Rattle.held.specs.Records.{is_status, is_finished}
+use Rattle.held.specs.Records.{is_status, is_finished, failed, dropped}
 use Rattle.held.specs.Valid.{is_count}
 use Rattle.fitting.specs.Fits.{fits_at}
 
@@ -96,7 +96,16 @@ not_finished h = twice (eqb h.finished 0)
     twice true = refl
     twice false = refl
 
--- ---- counts
+-- ---- a status, and counts
+
+pub status_okay : (x : ℕ) → x ≡ 0 → true ≡ is_status x
+status_okay x a = rw (eq-eqb x 0 a) refl
+
+pub status_error : (x : ℕ) → (x ≡ 0 → ⊥) → x ≡ failed → true ≡ is_status x
+status_error x a b = rw (ne_eqb x 0 a, eq-eqb x failed b) refl
+
+pub status_dropped : (x : ℕ) → (x ≡ 0 → ⊥) → (x ≡ failed → ⊥) → eqb x dropped ≡ is_status x
+status_dropped x a b = rw (ne_eqb x 0 a, ne_eqb x failed b) refl
 
 pub count_many : (slots extras : ℕ) → 4 < extras → false ≡ is_count slots extras
 unfolding is_count within

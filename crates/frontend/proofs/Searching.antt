@@ -84,6 +84,12 @@ err_or d (Err e) = e
 pub told : {T E : Type 0} (o : Option T) (d e : E) → Err e ≡ ok_or o d → o ≡ None → e ≡ d
 told o d e h n = ap (err_or d) (h ∙ ap (λ x. ok_or x d) n)
 
+-- a search that ended found something
+pub not_apart : (r : Search) → ended r ≡ true → r ≡ Ok tt → ⊥
+not_apart r h e =
+    let z : true ≡ false = sym h ∙ ap ended e in
+    no_confusion cc
+
 -- a search that ended promises nothing of the table
 pub searched_ended : (table window l pages : List ℕ) (e : Unusable) → search_from table window [] l ≡ Err e → Searched table window l pages (Err e)
 searched_ended table window l pages e h = record { answer = sym h; named = λ z. no_confusion cc }

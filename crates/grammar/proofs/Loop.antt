@@ -82,6 +82,12 @@ module _ (page : List ℕ) (first posted : ℕ) where
   gso_type_here n zero s k h = absurd (omega arith)
   gso_type_here n (suc e) s k h = ap gso_type (slot_here n (suc e) k h)
 
+  pub gso_size_next : (n e : ℕ) → e + 1 < posted → n ≡ wadd first (e + 1) → gso_size_of (e + 1) (transmit_slots page first posted) ≡ gso_size (transmit_slot page n)
+  gso_size_next n e k h = rw add-one (ap gso_size (rw add-one at (slot_here n (e + 1) k h)))
+
+  pub gso_type_next : (n e : ℕ) → e + 1 < posted → n ≡ wadd first (e + 1) → gso_type_of (e + 1) (transmit_slots page first posted) ≡ gso_type (transmit_slot page n)
+  gso_type_next n e k h = rw add-one (ap gso_type (rw add-one at (slot_here n (e + 1) k h)))
+
 -- ---- the later data slots' sizes
 
 pub sizes_snoc : (l : List Slot) (s : Slot) → sizes (l ++ (s ∷ [])) ≡ sizes l + size s

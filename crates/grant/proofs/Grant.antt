@@ -132,6 +132,10 @@ module _ (table window : List ℕ) (g : ℕ) where
 
   -- ---- the answers above it
 
+  pub write_of : (f w : Bool) → fit_transmit table window g ≡ f → writable table g && whole_page table g ≡ w → write_page table window g ≡ cond (f && w) (Some (page_of table g)) None
+  unfolding write_page fit_receive
+  write_of f w h k = rw (h, k)
+
   pub write_fit : (p : ℕ) → Some p ≡ write_page table window g → (fit_receive table window g ≡ true) × (p ≡ page_of table g)
   unfolding write_page
   write_fit p h = when_fit (fit_receive table window g) (page_of table g) p h

@@ -1,10 +1,10 @@
 -- A take's answer with what follows from it; and a part of the frame buffer that is lent and given back.
-use mathlib.Core.Path.{◌≡◌, refl, sym, ap, ◌∙◌}
+use mathlib.Core.Path.{◌≡◌, refl, sym, ap, subst, ◌∙◌}
 use mathlib.Core.List.{List, [], ◌++◌, append-nil}
 use mathlib.Core.Bool.{Bool, true, false, not, cond}
 use Prim.Native.Nat.{ℕ, ◌-◌, ◌≤◌}
 use native.Mathlib.Omega.{arith}
-use lib.ListN.{length, take, drop, length-drop}
+use lib.ListN.{length, take, drop, length-drop, take-append-drop}
 use lib.Seq.{take_all, drop-length}
 use Rattle.std.specs.Prelude.{Option, Some, None, is_some, is_none}
 use Rattle.held.specs.declared.Held.{Held}
@@ -16,7 +16,7 @@ use Rattle.transmit.specs.Take.{TakeEffect, summary_of, transmit_take}
 use Rattle.transmit.specs.Stages.{report_of, takes, record_of, packet_one, ComesToOne, HandedOne, Found, Gives}
 use Rattle.transmit.proofs.Quick.{quick_gives}
 use Rattle.concluding.specs.declared.Taken.{Taken}
-use Rattle.concluding.specs.Taken.{kept_in, TakenFor, ConcludesAs}
+use Rattle.concluding.specs.Taken.{kept_in, TakenFor, Concludes, ConcludesAs}
 use Rattle.concluding.proofs.Answers.{ticket_told}
 use Rattle.listing.specs.Listing.{behind}
 
@@ -45,26 +45,44 @@ concludes_as e q l a ring written t g k =
       takings = taken ∙ sym (ap takes k.answers);
     }
 
+-- a part that is given back as it was lent
+pub rest_same : (frame : List ℕ) (filled n : ℕ) {part : List ℕ} → part ≡ take n (drop filled frame) → take filled frame ++ (part ++ drop n (drop filled frame)) ≡ frame
+rest_same frame filled n e =
+    ap (λ (x : List ℕ). take filled frame ++ (x ++ drop n (drop filled frame))) e ∙ ap (take filled frame ++◌) (take-append-drop n (drop filled frame)) ∙ take-append-drop filled frame
+
 -- a part lent is what is left behind the bytes filled, and given back it stands behind them
+pub rest_stands : (table window : List ℕ) (q : Queue) (page frame : List ℕ) (filled : ℕ) (l : List Held) (t : Taken) (ring part : List ℕ) → filled ≤ length frame
+    → Concludes (transmit_take table window q page (take (length frame - filled) (drop filled frame)) l) q l t ring part
+    → Concludes (behind filled frame (transmit_take table window q page (drop filled frame) l)) q l t ring (take filled frame ++ (part ++ drop (length frame - filled) (drop filled frame)))
+rest_stands table window q page frame filled l t ring part h c =
+    let n : length (drop filled frame) ≡ length frame - filled = length-drop filled frame in
+    let whole : take (length frame - filled) (drop filled frame) ≡ drop filled frame = take_all (length frame - filled) (drop filled frame) (omega arith) in
+    let none : drop (length frame - filled) (drop filled frame) ≡ [] = ap (λ (k : ℕ). drop k (drop filled frame)) (sym n) ∙ drop-length (drop filled frame) in
+    let c' : Concludes (transmit_take table window q page (drop filled frame) l) q l t ring part = rw whole at c in
+    record {
+      report = c'.report;
+      queue = c'.queue;
+      page = c'.page;
+      frame = ap (λ (x : List ℕ). take filled frame ++ (part ++ x)) none ∙ ap (take filled frame ++◌) (append-nil part ∙ c'.frame);
+      list = c'.list;
+      room = c'.room;
+    }
+
+-- the same with what the take says that it took
 pub rest_concludes : (table window : List ℕ) (q : Queue) (page frame : List ℕ) (filled : ℕ) (l : List Held) (t : Taken) (ring part : List ℕ) → filled ≤ length frame
     → ConcludesAs (transmit_take table window q page (take (length frame - filled) (drop filled frame)) l) q l t ring part
     → ConcludesAs (behind filled frame (transmit_take table window q page (drop filled frame) l)) q l t ring (take filled frame ++ (part ++ drop (length frame - filled) (drop filled frame)))
 rest_concludes table window q page frame filled l t ring part h c =
-    let n : length (drop filled frame) ≡ length frame - filled = length-drop filled frame in
-    let whole : take (length frame - filled) (drop filled frame) ≡ drop filled frame = take_all (length frame - filled) (drop filled frame) (omega arith) in
-    let none : drop (length frame - filled) (drop filled frame) ≡ [] = ap (λ (k : ℕ). drop k (drop filled frame)) (sym n) ∙ drop-length (drop filled frame) in
-    let c' : ConcludesAs (transmit_take table window q page (drop filled frame) l) q l t ring part = rw whole at c in
-    record {
-      concludes = record {
-        report = c'.concludes.report;
-        queue = c'.concludes.queue;
-        page = c'.concludes.page;
-        frame = ap (λ (x : List ℕ). take filled frame ++ (part ++ x)) none ∙ ap (take filled frame ++◌) (append-nil part ∙ c'.concludes.frame);
-        list = c'.concludes.list;
-        room = c'.concludes.room;
-      };
-      takings = c'.takings;
-    }
+    record { concludes = rest_stands table window q page frame filled l t ring part h c.concludes; takings = c.takings }
+
+-- the same where the frame buffer that is lent is one that is as it was
+pub rest_again : (table window : List ℕ) (q : Queue) (page frame lent : List ℕ) → lent ≡ frame → (filled : ℕ) (l : List Held) (t : Taken) (ring part : List ℕ) → filled ≤ length lent
+    → Concludes (transmit_take table window q page (take (length lent - filled) (drop filled lent)) l) q l t ring part
+    → Concludes (behind filled frame (transmit_take table window q page (drop filled frame) l)) q l t ring (take filled lent ++ (part ++ drop (length lent - filled) (drop filled lent)))
+rest_again table window q page frame lent same filled l t ring part h c =
+    subst
+    (λ (x : List ℕ). Concludes (behind filled x (transmit_take table window q page (drop filled x) l)) q l t ring (take filled lent ++ (part ++ drop (length lent - filled) (drop filled lent))))
+    same (rest_stands table window q page lent filled l t ring part h c)
 
 -- whether no place is found, as a test tells it
 pub full_told : (free : Option ℕ) (b : Bool) → is_some free ≡ not b → b ≡ is_none free

@@ -4,12 +4,13 @@ use mathlib.Core.Path.{◌≡◌, refl, sym, ap, ◌∙◌}
 use mathlib.Core.List.{List, [], ◌∷◌, ◌++◌, map-append}
 use mathlib.Core.Bool.{Bool, true, false, not}
 use Prim.Native.Nat.{ℕ, suc, ◌+◌, ◌-◌, ◌<◌}
+use native.Mathlib.Omega.{arith}
 use native.Mathlib.Numerals.{add-one}
 use lib.ListN.{length, take, set}
 use lib.Seq.{take-suc-set}
 use Rattle.words.proofs.Word.{no_confusion}
 use Rattle.ring.specs.Ring.{wadd}
-use Rattle.ring.proofs.Ring.{slots_snoc}
+use Rattle.ring.proofs.Ring.{slots_snoc, slots_length}
 use Rattle.grant.specs.Grant.{fit_receive}
 use Rattle.grant.specs.Lookup.{write_page}
 use Rattle.std.specs.Prelude.{Some, None}
@@ -65,6 +66,18 @@ module _ (table window page : List ℕ) (first count n i : ℕ) (here : n ≡ wa
         ∙ ap (λ (x : ℕ). pages_named table (receive_slots page first i) ++ (x ∷ [])) named
         ∙ sym (map-append (page_named table) (receive_slots page first i) (receive_slot page (first + i) ∷ []))
         ∙ sym (ap (pages_named table) (slots_snoc 8 256 page i first))
+
+-- none is left
+pub judged_good : (table window page : List ℕ) (first count i : ℕ) (pages : List ℕ)
+    → judge table window 0 (receive_slots page first count) ≡ judge table window i (receive_slots page (first + i) (count - i)) → take i pages ≡ pages_named table (receive_slots page first i)
+    → i ≡ count → Judged table window (receive_slots page first count) pages good
+judged_good table window page first count i pages inv named h =
+    let none : count - i ≡ 0 = omega arith in
+    let all : length (receive_slots page first count) ≡ i = slots_length 8 256 page count first ∙ sym h in
+    record {
+      verdict = sym (inv ∙ ap (λ (k : ℕ). judge table window i (receive_slots page (first + i) k)) none);
+      named = λ g. rw all (named ∙ ap (λ (k : ℕ). pages_named table (receive_slots page first k)) h);
+    }
 
 -- the verdict on requests that are all fit
 rest_good : (b : Bool) (k : ℕ) (v : Verdict) → test (not b) 4 k or_else v ≡ good → (b ≡ true) × (v ≡ good)

@@ -20,6 +20,11 @@ pub wadd_zero : (c : ℕ) → c < wrap → wadd c 0 ≡ c
 unfolding wadd
 wadd_zero c h = omega arith
 
+-- the number that, added to b, wraps to a
+pub subtracted : (r a b : ℕ) → r < wrap → (r + b) % wrap ≡ a → r ≡ wsub a b
+unfolding wsub
+subtracted r a b h e = omega arith
+
 pub wadd_sum : (r s m : ℕ) → (wadd r s + m) % wrap ≡ (r + (s + m)) % wrap
 unfolding wadd
 wadd_sum r s m = omega arith

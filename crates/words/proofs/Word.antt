@@ -7,9 +7,10 @@ use mathlib.Core.Logic.{◌≢◌, ◌⊎◌, inl, inr, ⊎_elim}
 use mathlib.Core.List.{List, [], ◌∷◌, ◌++◌, append-nil, append_assoc}
 use Prim.Native.Nat.{ℕ, zero, suc, ◌+◌, ◌-◌, ◌*◌, ◌/◌, ◌%◌, ◌≤◌, ◌<◌}
 use native.Mathlib.Nat.{div-div-eq-div-mul, zero-add, add-zero, add_assoc}
+use native.Mathlib.Numerals.{add-one, add-two, add-three}
 use native.Mathlib.Omega.{arith}
 use lib.ListN.{length, take, drop, get_or, set, length-append, length-take, length-drop, get_or-append, get_or-eq_default, drop_of_length-le, take-append-drop}
-use lib.Seq.{get_or-take, get_or-drop, get_or-append-add, ext_get_or, length-take-le, drop-cons, set_at, append_snoc, drop-drop, drop-append-add, take_at}
+use lib.Seq.{get_or-take, get_or-drop, get_or-append-add, ext_get_or, length-take-le, sets-eq, drop-cons, set_at, append_snoc, drop-drop, drop-append-add, take_at}
 use Rattle.words.specs.Word.{Bytes, u16_at, u32_at, u16_bytes, u32_bytes, splice}
 
 -- one of two numbers is the smaller
@@ -121,6 +122,15 @@ splice_join l i a b n e h =
     ∙ drop-drop (length b) (i + length a) l
     ∙ ap (λ (x : ℕ). drop x l) (add_assoc i (length a) (length b) ∙ ap (i +◌) (sym (length-append a b))) in
     rw (front, behind, append_assoc (take i l) a b)
+
+-- two stores, and four, are one splice
+pub two_stores : (l : List ℕ) (i a b : ℕ) → i + 2 ≤ length l → set (set l i a) (i + 1) b ≡ splice l i (a ∷ b ∷ [])
+unfolding splice
+two_stores l i a b h = rw add-one (sets-eq (a ∷ b ∷ []) l i h)
+
+pub four_stores : (l : List ℕ) (i a b c d : ℕ) → i + 4 ≤ length l → set (set (set (set l i a) (i + 1) b) (i + 2) c) (i + 3) d ≡ splice l i (a ∷ b ∷ c ∷ d ∷ [])
+unfolding splice
+four_stores l i a b c d h = rw (add-one, add-two, add-three) (sets-eq (a ∷ b ∷ c ∷ d ∷ []) l i h)
 
 -- all of a list written over
 pub splice_all : (l b : List ℕ) → length l ≡ length b → splice l 0 b ≡ b
