@@ -2,7 +2,7 @@
 // is needed.
 #![tactic(auto)]
 
-ghost use Rattle.std.specs.Prelude.{◌≡◌};
+ghost use Rattle.std.specs.Prelude.{◌≡◌, replicate};
 ghost use Rattle.held.specs.Records.{all_free};
 ghost use Rattle.glancing.specs.Glance.{unheld_tally, Glanced};
 
@@ -29,6 +29,16 @@ fn unheld_tally(list: &[Held]) -> Option<Tally>
     })
 }
 
+// The tally of a list where slots lie between the counters, by an inspection with an index that is cleared. It stays a call of its own: taken
+// in line, it leaves a take too few registers, and takes on long lists took a fifth longer.
+#[inline(never)]
+fn held_tally(list: &[Held], consumed: u32, replied: u32, index: &mut Index) -> Option<Tally>
+    requires { index.old ≡ replicate 256 0 }
+    ensures { Glanced consumed replied list.now result }
+{
+    inspecting::inspect(list, consumed, replied, index)
+}
+
 // Looks a list over for a take. There is a tally exactly if the list is valid.
 pub fn look_over(list: &[Held], consumed: u32, replied: u32) -> Option<Tally>
     ensures { Glanced consumed replied list.now result }
@@ -36,5 +46,5 @@ pub fn look_over(list: &[Held], consumed: u32, replied: u32) -> Option<Tally>
     if consumed == replied {
         return unheld_tally(list);
     }
-    inspecting::inspect(list, consumed, replied, &mut Index::new())
+    held_tally(list, consumed, replied, &mut Index::new())
 }
