@@ -20,7 +20,10 @@ fn path_of<'a>(folder: &[u8], file: &[u8], room: &'a mut [u8]) -> Option<&'a str
     }
     words::put_bytes(room, 0, folder);
     words::put_bytes(room, folder.len(), file);
-    str::from_utf8(&room[..n]).ok()
+    let Ok(path) = str::from_utf8(&room[..n]) else {
+        return None;
+    };
+    Some(path)
 }
 
 // Reads a folder's file to the front of a buffer; the number of bytes. No such file is as an empty one: 0.
