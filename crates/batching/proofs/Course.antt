@@ -25,12 +25,12 @@ use Rattle.transmit.specs.Stages.{report_of, takes, Lent, Found}
 use Rattle.transmit.proofs.Keeps.{stays_valid}
 use Rattle.transmit.proofs.Frame.{take_fits}
 use Rattle.concluding.specs.declared.Taken.{Taken}
-use Rattle.concluding.specs.Taken.{Concludes, ConcludesAs}
+use Rattle.concluding.specs.Taken.{kept_in, Concludes, ConcludesAs}
 use Rattle.batch.specs.Batch.{Progress, begun, goes_on, next_take, batch, stored}
 use Rattle.batch.proofs.Batch.{batch_step}
 use Rattle.listing.specs.declared.Batch.{Batch}
 use Rattle.listing.specs.Listing.{started, behind, listed_in, total_of, advanced}
-use Rattle.batching.specs.Course.{KeptAt, Known, Begins, InCourse, GoesOn, taking, Steps, Batched}
+use Rattle.batching.specs.Course.{Known, Begins, InCourse, GoesOn, taking, Steps, Batched}
 
 -- ---- the start
 
@@ -119,7 +119,8 @@ module _ (table window : List ℕ) (b : Batch) (page : List ℕ) (l : List Held)
     total : total_of t.answer ≡ e.report.total
     total = sym (total_told t.ticket t.answer) ∙ ap (λ (r : Report). r.total) c.report
 
-    module _ (next : Option ℕ) (l' : List Held) (k : KeptAt l b.free t.«record» next l') (b' : Batch) (is : b' ≡ advanced b t next) (results results' : List (List ℕ)) (written : results' ≡ listed_in results b.count t)
+    -- of what `KeptAt` says, that the place stays where nothing is kept is not asked
+    module _ (next : Option ℕ) (l' : List Held) (kept : l' ≡ kept_in l t.«record») (placed : (h : Held) → t.«record» ≡ Some h → next ≡ vacancy l') (b' : Batch) (is : b' ≡ advanced b t next) (results results' : List (List ℕ)) (written : results' ≡ listed_in results b.count t)
         (more : Bool) (told : more ≡ is_some t.«record») where
       pub step_taken : Steps table window b page l frame results more b' page' l' frame' results'
       step_taken = rw is (record {
@@ -128,7 +129,7 @@ module _ (table window : List ℕ) (b : Batch) (page : List ℕ) (l : List Held)
         filled = ap (b.filled +◌) total;
         count = refl;
         pages = c.page;
-        records = k.records ∙ c.list;
+        records = kept ∙ c.list;
         frames = c.frame;
         listings = written ∙ ap (λ (r : Report). set results b.count (report_words r)) c.report;
       })
@@ -139,7 +140,7 @@ module _ (table window : List ℕ) (b : Batch) (page : List ℕ) (l : List Held)
         where
           go : (r : Option Held) → t.«record» ≡ r → is_some r ≡ true → next ≡ vacancy l'
           go None e h' = cc
-          go (Some x) e h' = k.place x e
+          go (Some x) e h' = placed x e
 
       next_known : is_some t.«record» ≡ true → Known b' l'
       next_known h =

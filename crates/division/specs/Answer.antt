@@ -1,5 +1,5 @@
 -- What the slow reader answers, by the grammar alone: the answer and its table are stated without a divider.
-use Rattle.std.specs.Prelude.{◌≡◌, ◌≢◌, Result, Ok, Err, List, [], map, ℕ, ◌/◌, ◌%◌, ◌≤◌, ◌<◌, length, take}
+use Rattle.std.specs.Prelude.{◌≡◌, ◌≢◌, Result, Ok, Err, List, [], map, ℕ, ◌/◌, ◌%◌, ◌≤◌, ◌<◌, length, take, codes}
 use Rattle.words.specs.Word.{splice}
 use Rattle.netif.specs.Slot.{Slot, slot_width, slot_count}
 use Rattle.grammar.specs.Grammar.{Packet, Begins, BeginsProperly, NoneAtFront, Division}
@@ -21,6 +21,16 @@ abbrev pub number_of : Ending → ℕ
 number_of ending.Empty = 4
 number_of ending.Waiting = 6
 number_of ending.Misshapen = 5
+
+-- the word that such a rest is printed as, and the reason for a refusal
+abbrev pub name_of : Ending → List ℕ
+name_of ending.Empty = codes "empty"
+name_of ending.Waiting = codes "waiting"
+name_of ending.Misshapen = codes "misshapen"
+
+abbrev pub reason_of : Refused → List ℕ
+reason_of refused.Uneven = codes "uneven"
+reason_of refused.TooLong = codes "too-long"
 
 -- the division of a run (document 01: its leading packets and the rest): how many packets there are and what the rest is, and in the
 -- table each packet's number of slots

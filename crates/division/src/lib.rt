@@ -3,8 +3,13 @@
 // other code.
 #![tactic(auto)]
 
-ghost use Rattle.std.specs.Prelude.{◌≡◌};
-ghost use Rattle.division.specs.Answer.{number_of};
+#[cfg(test)]
+mod tests;
+
+ghost use Rattle.std.specs.Prelude.{◌≡◌, Some};
+ghost use Rattle.division.specs.Answer.{number_of, name_of, reason_of};
+
+use std::fmt;
 
 // What the rest of a run is: nothing, a proper beginning of a packet, or the beginning of none.
 #[derive(Clone, Copy, PartialEq, Eq)]
@@ -27,6 +32,19 @@ impl From<Ending> for u32 {
     }
 }
 
+// A rest is printed as its word.
+impl fmt::Display for Ending {
+    ghost output = { λ ending. Some (name_of ending) };
+
+    fn fmt<W: fmt::Write>(&self, f: &mut fmt::Formatter<W>) -> fmt::Result {
+        match self {
+            Ending::Empty => write!(f, "empty"),
+            Ending::Waiting => write!(f, "waiting"),
+            Ending::Misshapen => write!(f, "misshapen"),
+        }
+    }
+}
+
 // A division: how many packets were cut off, and what the rest is. How many slots each packet has stands in a table.
 // The table is the caller's, with its count here: `DividedAs` promises that its places behind the cuts stay.
 #[derive(Clone, Copy, PartialEq, Eq)]
@@ -42,4 +60,16 @@ pub enum Refused {
     Uneven,
     // There are more than 256 slots.
     TooLong,
+}
+
+// A refusal is printed as its reason.
+impl fmt::Display for Refused {
+    ghost output = { λ refused. Some (reason_of refused) };
+
+    fn fmt<W: fmt::Write>(&self, f: &mut fmt::Formatter<W>) -> fmt::Result {
+        match self {
+            Refused::Uneven => write!(f, "uneven"),
+            Refused::TooLong => write!(f, "too-long"),
+        }
+    }
 }
