@@ -22,7 +22,8 @@ number_of ending.Empty = 4
 number_of ending.Waiting = 6
 number_of ending.Misshapen = 5
 
--- the word that such a rest is printed as, and the reason for a refusal
+-- the word that such a rest is printed as (document 01: the name of that answer), and the reason for a refusal; `tests/reference/FORMAT.md`
+-- has all five
 abbrev pub name_of : Ending → List ℕ
 name_of ending.Empty = codes "empty"
 name_of ending.Waiting = codes "waiting"
